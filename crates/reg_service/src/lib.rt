@@ -7,7 +7,7 @@ mod endpoints;
 mod error;
 mod following;
 mod gate;
-mod holding;
+mod making;
 mod nodes;
 mod parts;
 mod running;

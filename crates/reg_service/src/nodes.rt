@@ -8,8 +8,8 @@ ghost use Rattle.reg_shared.specs.Held.{held_of};
 use crate::common::Common;
 use crate::endpoints::Endpoints;
 use crate::error::ServiceError;
-use crate::holding::{hold_one, hold_three, hold_two};
-use crate::parts::{Parts, Stage, TopicHandles, make_parts};
+use crate::making::make_first;
+use crate::parts::{Parts, Resources, TopicHandles, make_parts};
 use crate::size::Size;
 use reg_connection::Limits;
 use reg_desk::Gate;
@@ -190,7 +190,7 @@ fn add_readers<
     Ok(())
 }
 
-/// Makes the first node's feed, and goes on with the next one if there is one.
+/// Makes the first node's feed, and goes on with the second.
 fn add_first<
     'x,
     N: FeedName<Item, Shared> + Send + Sync,
@@ -209,28 +209,18 @@ fn add_first<
 ) -> Result<(), ServiceError>
     requires { (list.reached.book ≡ L.book) × (L.first ≡ empty) }
 {
-    let first = make_parts::<N, S, L, R, G>(common, handles, list)?;
-    if common.nodes <= 1 {
-        let listeners = endpoints.listen()?;
-        let stage = Stage {
-            common,
-            pen,
-            listeners: &listeners,
-        };
-        hold_one(&stage, &mut handles.passes, &first, endpoints)
-    } else {
-        add_second::<N, S, K, L, Stored<Draw, Taken, L>, Brand, R, G, E>(
-            common,
-            pen,
-            handles,
-            &first,
-            Unnamed::new(),
-            endpoints,
-        )
-    }
+    let first = make_parts::<N, S, L, R, G>(common, handles, 0, list)?;
+    add_second::<N, S, K, L, Stored<Draw, Taken, L>, Brand, R, G, E>(
+        common,
+        pen,
+        handles,
+        &first,
+        Unnamed::new(),
+        endpoints,
+    )
 }
 
-/// Makes the second node's feed, and goes on with the next one if there is one.
+/// Makes the second node's feed, if there is one, and goes on with the third.
 fn add_second<
     'x,
     N: FeedName<Item, Shared> + Send + Sync,
@@ -246,35 +236,25 @@ fn add_second<
     common: &'x Common<'x, R, G>,
     pen: &'x Mutex<Pen<N, S, K, R>>,
     handles: &mut TopicHandles<N, S>,
-    first: &'x Parts<N, S, L, T, R>,
+    first: &'x Option<Parts<N, S, L, T, R>>,
     list: Unnamed<Draw>,
     endpoints: &mut E,
 ) -> Result<(), ServiceError>
     requires { (list.reached.book ≡ M.book) × (M.first ≡ empty) }
 {
-    let second = make_parts::<N, S, M, R, G>(common, handles, list)?;
-    if common.nodes <= 2 {
-        let listeners = endpoints.listen()?;
-        let stage = Stage {
-            common,
-            pen,
-            listeners: &listeners,
-        };
-        hold_two(&stage, &mut handles.passes, first, &second, endpoints)
-    } else {
-        add_third::<N, S, K, L, T, M, Stored<Draw, Taken, M>, Brand, R, G, E>(
-            common,
-            pen,
-            handles,
-            first,
-            &second,
-            Unnamed::new(),
-            endpoints,
-        )
-    }
+    let second = make_parts::<N, S, M, R, G>(common, handles, 1, list)?;
+    add_third::<N, S, K, L, T, M, Stored<Draw, Taken, M>, Brand, R, G, E>(
+        common,
+        pen,
+        handles,
+        first,
+        &second,
+        Unnamed::new(),
+        endpoints,
+    )
 }
 
-/// Makes the third node's feed.
+/// Makes the third node's feed, if there is one. Then the nodes listen, and are made.
 fn add_third<
     'x,
     N: FeedName<Item, Shared> + Send + Sync,
@@ -292,22 +272,22 @@ fn add_third<
     common: &'x Common<'x, R, G>,
     pen: &'x Mutex<Pen<N, S, K, R>>,
     handles: &mut TopicHandles<N, S>,
-    first: &'x Parts<N, S, L, T, R>,
-    second: &'x Parts<N, S, M, U, R>,
+    first: &'x Option<Parts<N, S, L, T, R>>,
+    second: &'x Option<Parts<N, S, M, U, R>>,
     list: Unnamed<Draw>,
     endpoints: &mut E,
 ) -> Result<(), ServiceError>
     requires { (list.reached.book ≡ O.book) × (O.first ≡ empty) }
 {
-    let third = make_parts::<N, S, O, R, G>(common, handles, list)?;
+    let third = make_parts::<N, S, O, R, G>(common, handles, 2, list)?;
     let listeners = endpoints.listen()?;
-    let stage = Stage {
+    let resources = Resources {
         common,
         pen,
         listeners: &listeners,
     };
-    hold_three(
-        &stage,
+    make_first(
+        &resources,
         &mut handles.passes,
         first,
         second,

@@ -2,10 +2,10 @@
 ghost use Rattle.std.specs.Prelude.{◌≡◌, ◌≤◌};
 ghost use Rattle.std.specs.FinSet.{empty};
 
-use crate::common::Common;
+use crate::common::{Common, Others};
 use crate::error::ServiceError;
 use crate::following::Following;
-use reg_desk::{Gate, NodeDesk, Wake};
+use reg_desk::{Gate, NodeDesk};
 use reg_feed::{Copies, FeedName, FeedReader, Stored, Unnamed, feed};
 use reg_judge::Judge;
 use reg_node::{Draw, Follower, Taken, View};
@@ -48,9 +48,9 @@ pub(crate) struct Parts<
     pub(crate) views: Mutex<Vec<View<M, U>>>,
 }
 
-/// Where nodes are made: what they share, the pen of the topic, and where they listen.
+/// What nodes are made with: what they share, the pen of the topic, and where they listen.
 #[derive(Drop)]
-pub(crate) struct Stage<
+pub(crate) struct Resources<
     'a,
     N: FeedName<Item, Shared>,
     S: Copies<Item, Shared, N>,
@@ -63,7 +63,7 @@ pub(crate) struct Stage<
     pub(crate) listeners: &'a [TcpListener],
 }
 
-/// Makes a node's feed, its follower and its views.
+/// Makes the feed, the follower and the views of the node of that number, if there is one.
 pub(crate) fn make_parts<
     N: FeedName<Item, Shared>,
     S: Copies<Item, Shared, N>,
@@ -73,16 +73,20 @@ pub(crate) fn make_parts<
 >(
     common: &Common<'_, R, G>,
     handles: &mut TopicHandles<N, S>,
+    number: usize,
     list: Unnamed<Draw>,
-) -> Result<Parts<N, S, M, Stored<Draw, Taken, M>, R>, ServiceError>
+) -> Result<Option<Parts<N, S, M, Stored<Draw, Taken, M>, R>>, ServiceError>
     requires { (list.reached.book ≡ M.book) × (M.first ≡ empty) }
 {
+    if number >= common.nodes {
+        return Ok(None);
+    }
     let mut follower = make_follower::<N, S, M, R, G>(common, handles, list)?;
     let views = begin_to_follow(&mut follower, common.alloc, common.workers.max(1))?;
-    Ok(Parts {
+    Ok(Some(Parts {
         follower: Mutex::new(follower),
         views: Mutex::new(views),
-    })
+    }))
 }
 
 /// Makes a node's feed and its follower, which has read nothing yet.
@@ -136,6 +140,9 @@ fn begin_to_follow<
     Ok(views)
 }
 
+/// A desk that wakes the other nodes.
+pub(crate) type NamedDesk<'a, N, S, K, M, U, R, G> = NodeDesk<'a, N, S, K, M, U, R, G, Others<'a>>;
+
 /// A desk of a node for each view, with a judge of its own.
 pub(crate) fn make_desks<
     'a,
@@ -147,15 +154,14 @@ pub(crate) fn make_desks<
     U: Copies<Draw, Taken, M>,
     R: Wait + Drop,
     G: Gate,
-    W: Wake<N> + Copy + Drop,
 >(
     common: &Common<'x, R, G>,
     pen: &'a Mutex<Pen<N, S, K, R>>,
     passes: &mut Vec<Pass<N>>,
     follower: &'a Mutex<Follower<N, S, M, U, R>>,
-    wake: W,
+    others: Others<'a>,
     views: Vec<View<M, U>>,
-) -> Result<Vec<NodeDesk<'a, N, S, K, M, U, R, G, W>>, ServiceError> {
+) -> Result<Vec<NamedDesk<'a, N, S, K, M, U, R, G>>, ServiceError> {
     let alloc = common.alloc;
     let mut desks = Vec::new(alloc);
     for view in views {
@@ -166,7 +172,7 @@ pub(crate) fn make_desks<
             pen,
             follower,
             common.gate,
-            wake,
+            others,
             common.calls,
             pass,
             view,
@@ -177,8 +183,8 @@ pub(crate) fn make_desks<
     Ok(desks)
 }
 
-/// The node of that number, which isn't opened yet.
-pub(crate) fn make_node<
+/// The server of the node of that number, which isn't opened yet.
+pub(crate) fn make_server<
     'a,
     'x: 'a,
     N: FeedName<Item, Shared>,
@@ -191,22 +197,22 @@ pub(crate) fn make_node<
 >(
     common: &Common<'x, R, G>,
     listeners: &'a [TcpListener],
-    own: usize,
+    number: usize,
     follower: &'a Mutex<Follower<N, S, M, U, R>>,
 ) -> Result<NodeServer<'a, Following<'a, N, S, M, U, R>, T>, ServiceError> {
     let following = Following {
         rt: common.rt,
         follower,
-        grown: common.grown.get(own).ok_or(ServiceError::NoPlace)?,
+        grown: common.grown.get(number).ok_or(ServiceError::NoPlace)?,
         traffic: common.traffic,
     };
-    let node = NodeServer::new(
+    let server = NodeServer::new(
         common.rt,
         common.alloc,
-        listeners.get(own).ok_or(ServiceError::NoPlace)?,
+        listeners.get(number).ok_or(ServiceError::NoPlace)?,
         following,
         common.workers as usize,
         common.limits,
     )?;
-    Ok(node)
+    Ok(server)
 }

@@ -3,89 +3,15 @@ use crate::common::Common;
 use crate::endpoints::Endpoints;
 use crate::error::ServiceError;
 use reg_conversation::SharedDesk;
-use reg_serve::{Follow, NodeServer, begin, open_node};
-use std::alloc::Global;
+use reg_serve::{Follow, NodeServer, StartError, begin, open_node};
 use std::mem;
 use std::sync::Wait;
-use std::thread::{self, Threads};
+use std::thread::{self, Scope, Threads};
 use std::time::Clock;
 
-/// Serves by one node: starts their threads, lets them begin, and returns once all have ended.
-pub(crate) fn serve_one<
-    's,
-    T1: Send + Drop + 's,
-    D1: SharedDesk<Standing = T1> + Send + Drop + 's,
-    W1: Follow + Sync + Drop + 's,
-    R: Threads + Wait + Clock + Sync + 's,
-    G,
-    E: Endpoints,
->(
-    common: &'s Common<'s, R, G>,
-    first: &'s NodeServer<'s, W1, T1>,
-    first_desks: &mut Vec<D1>,
-    endpoints: &mut E,
-) -> Result<(), ServiceError> {
-    let rt = common.rt;
-    let alloc = common.alloc;
-    let latch = common.latch;
-    let limit = common.limit;
-    thread::scope(
-        thread::scope_env(),
-        rt,
-        |scope| -> Result<(), ServiceError> {
-            let desks = take(first_desks, alloc);
-            let started = open_node(scope, rt, alloc, latch, first, desks, limit);
-            begin(latch, started, || endpoints.ready())?;
-            Ok(())
-        },
-    )
-}
-
-/// Serves by two nodes: starts their threads, lets them begin, and returns once all have ended.
-pub(crate) fn serve_two<
-    's,
-    T1: Send + Drop + 's,
-    D1: SharedDesk<Standing = T1> + Send + Drop + 's,
-    W1: Follow + Sync + Drop + 's,
-    T2: Send + Drop + 's,
-    D2: SharedDesk<Standing = T2> + Send + Drop + 's,
-    W2: Follow + Sync + Drop + 's,
-    R: Threads + Wait + Clock + Sync + 's,
-    G,
-    E: Endpoints,
->(
-    common: &'s Common<'s, R, G>,
-    first: &'s NodeServer<'s, W1, T1>,
-    first_desks: &mut Vec<D1>,
-    second: &'s NodeServer<'s, W2, T2>,
-    second_desks: &mut Vec<D2>,
-    endpoints: &mut E,
-) -> Result<(), ServiceError> {
-    let rt = common.rt;
-    let alloc = common.alloc;
-    let latch = common.latch;
-    let limit = common.limit;
-    thread::scope(
-        thread::scope_env(),
-        rt,
-        |scope| -> Result<(), ServiceError> {
-            let desks = take(first_desks, alloc);
-            let started = open_node(scope, rt, alloc, latch, first, desks, limit);
-            let started = match started {
-                Ok(()) => {
-                    let desks = take(second_desks, alloc);
-                    open_node(scope, rt, alloc, latch, second, desks, limit)
-                }
-                Err(e) => Err(e),
-            };
-            begin(latch, started, || endpoints.ready())?;
-            Ok(())
-        },
-    )
-}
-
-/// Serves by three nodes: starts their threads, lets them begin, and returns once all have ended.
-pub(crate) fn serve_three<
+/// Serves: starts the threads of the nodes that are there, lets them begin, and returns once all have
+/// ended.
+pub(crate) fn serve<
     's,
     T1: Send + Drop + 's,
     D1: SharedDesk<Standing = T1> + Send + Drop + 's,
@@ -96,50 +22,95 @@ pub(crate) fn serve_three<
     T3: Send + Drop + 's,
     D3: SharedDesk<Standing = T3> + Send + Drop + 's,
     W3: Follow + Sync + Drop + 's,
-    R: Threads + Wait + Clock + Sync + 's,
+    R: Threads + Wait + Clock + Sync,
     G,
     E: Endpoints,
 >(
     common: &'s Common<'s, R, G>,
-    first: &'s NodeServer<'s, W1, T1>,
+    first: &'s Option<NodeServer<'s, W1, T1>>,
     first_desks: &mut Vec<D1>,
-    second: &'s NodeServer<'s, W2, T2>,
+    second: &'s Option<NodeServer<'s, W2, T2>>,
     second_desks: &mut Vec<D2>,
-    third: &'s NodeServer<'s, W3, T3>,
+    third: &'s Option<NodeServer<'s, W3, T3>>,
     third_desks: &mut Vec<D3>,
     endpoints: &mut E,
 ) -> Result<(), ServiceError> {
-    let rt = common.rt;
-    let alloc = common.alloc;
-    let latch = common.latch;
-    let limit = common.limit;
     thread::scope(
         thread::scope_env(),
-        rt,
+        common.rt,
         |scope| -> Result<(), ServiceError> {
-            let desks = take(first_desks, alloc);
-            let started = open_node(scope, rt, alloc, latch, first, desks, limit);
-            let started = match started {
-                Ok(()) => {
-                    let desks = take(second_desks, alloc);
-                    open_node(scope, rt, alloc, latch, second, desks, limit)
-                }
-                Err(e) => Err(e),
-            };
-            let started = match started {
-                Ok(()) => {
-                    let desks = take(third_desks, alloc);
-                    open_node(scope, rt, alloc, latch, third, desks, limit)
-                }
-                Err(e) => Err(e),
-            };
-            begin(latch, started, || endpoints.ready())?;
+            let started = start_nodes(
+                scope,
+                common,
+                first,
+                first_desks,
+                second,
+                second_desks,
+                third,
+                third_desks,
+            );
+            begin(common.latch, started, || endpoints.ready())?;
             Ok(())
         },
     )
 }
 
-/// Takes all desks.
-fn take<D>(desks: &mut Vec<D>, alloc: Global) -> Vec<D> {
-    mem::replace(desks, Vec::new(alloc))
+/// Starts the threads of the nodes that are there, the first node's first.
+fn start_nodes<
+    's,
+    X,
+    T1: Send + Drop + 's,
+    D1: SharedDesk<Standing = T1> + Send + Drop + 's,
+    W1: Follow + Sync + Drop + 's,
+    T2: Send + Drop + 's,
+    D2: SharedDesk<Standing = T2> + Send + Drop + 's,
+    W2: Follow + Sync + Drop + 's,
+    T3: Send + Drop + 's,
+    D3: SharedDesk<Standing = T3> + Send + Drop + 's,
+    W3: Follow + Sync + Drop + 's,
+    R: Threads + Wait + Clock + Sync,
+    G,
+>(
+    scope: &Scope<'s, X>,
+    common: &'s Common<'s, R, G>,
+    first: &'s Option<NodeServer<'s, W1, T1>>,
+    first_desks: &mut Vec<D1>,
+    second: &'s Option<NodeServer<'s, W2, T2>>,
+    second_desks: &mut Vec<D2>,
+    third: &'s Option<NodeServer<'s, W3, T3>>,
+    third_desks: &mut Vec<D3>,
+) -> Result<(), StartError> {
+    start_node(scope, common, first, first_desks)?;
+    start_node(scope, common, second, second_desks)?;
+    start_node(scope, common, third, third_desks)
+}
+
+/// Starts a node's threads, if it is there.
+fn start_node<
+    's,
+    X,
+    T: Send + Drop + 's,
+    D: SharedDesk<Standing = T> + Send + Drop + 's,
+    W: Follow + Sync + Drop + 's,
+    R: Threads + Wait + Clock + Sync + 's,
+    G,
+>(
+    scope: &Scope<'s, X>,
+    common: &'s Common<'s, R, G>,
+    server: &'s Option<NodeServer<'s, W, T>>,
+    desks: &mut Vec<D>,
+) -> Result<(), StartError> {
+    let Some(server) = server else {
+        return Ok(());
+    };
+    let desks = mem::replace(desks, Vec::new(common.alloc));
+    open_node(
+        scope,
+        common.rt,
+        common.alloc,
+        common.latch,
+        server,
+        desks,
+        common.limit,
+    )
 }
