@@ -5,9 +5,8 @@
 ghost use Rattle.std.specs.Prelude.{◌≡◌, ◌<◌, true, false};
 ghost use Rattle.reg_file_keep.specs.Room.{due, least, next_count, waited};
 
-use reg_records::{LOG_LINES, Log};
+use reg_records::{Key, LOG_LINES, Log};
 use std::alloc::{AllocError, Global};
-use std::collections::BTreeSet;
 
 /// A file that has no more lines, those that come among them, isn't compacted for their number alone.
 const FEW_LINES: u64 = 100_000;
@@ -126,10 +125,11 @@ impl Room {
 /// How many of a log's lines stay, at least, in a compaction to its own floor: the last one of each key, unless it deletes
 /// the key below the floor. The only error is out of memory.
 fn count_staying(alloc: Global, log: &Log) -> Result<u64, AllocError> {
-    let mut keys = BTreeSet::new(alloc);
+    let mut keys: Vec<&Key> = log.records.iter().map(|record| &record.key).collect(alloc)?;
+    keys.sort_unstable();
+    keys.dedup();
     let mut deletes: u64 = 0;
     for record in &log.records {
-        keys.insert(&record.key)?;
         if record.value.is_none() && record.offset < log.floor {
             deletes = deletes.saturating_add(1);
         }

@@ -5,10 +5,10 @@ ghost use Rattle.reg_shared.specs.Held.{base_of};
 ghost use Rattle.reg_pen.specs.Deletes.{are_many, deletes_after, deletes_at_first, deletes_in, is_delete};
 
 use reg_records::Record;
-use reg_set::{RecordSet, records_are_ordered};
+use reg_set::{records_are_listed_in_order, records_are_ordered};
 use reg_shared::Shared;
 use reg_topic::Item;
-use std::alloc::{AllocError, Global};
+use std::alloc::AllocError;
 
 /// How many deletes have to be due, at least, before they are many.
 const MANY: u64 = 1_024;
@@ -32,10 +32,10 @@ pub struct Deletes {
 
 impl Deletes {
     /// What is counted of what a topic begins with. The only error is out of memory.
-    pub(crate) fn at_first(alloc: Global, shared: &Shared) -> Result<Deletes, AllocError>
+    pub(crate) fn at_first(shared: &Shared) -> Result<Deletes, AllocError>
         ensures { IfOk result (λ deletes. deletes ≡ deletes_at_first (base_of shared.now)) }
     {
-        let kept = listed(alloc, shared)?;
+        let kept = listed(shared)?;
         Ok(Deletes {
             floor: shared.floor(),
             due: 0,
@@ -83,14 +83,13 @@ impl Deletes {
 }
 
 /// Copies of the kept records, each once. The only error is out of memory.
-fn listed(alloc: Global, shared: &Shared) -> Result<Vec<Record>, AllocError>
+fn listed(shared: &Shared) -> Result<Vec<Record>, AllocError>
     ensures { IfOk result (λ kept. kept.items ≡ records_of shared.now.kept.records) }
 {
+    records_are_listed_in_order();
     records_are_ordered();
     let found = shared.since(0)?;
-    let set = RecordSet::of(alloc, &found)?;
-    let listed = set.records()?;
-    Ok(listed)
+    Ok(found)
 }
 
 /// How many of the records have no value.

@@ -138,7 +138,7 @@ pub fn open<N: FeedName<Item, Shared>, K: Keep + Drop, R: Wait + Drop>(
     let KeptLog { log, mut keep } = kept;
     let begun = Shared::adopt(alloc, &log)?;
     drop(log);
-    let deletes = Deletes::at_first(alloc, &begun.shared)?;
+    let deletes = Deletes::at_first(&begun.shared)?;
     let writer = feed::<Item, Shared, N, R>(rt, alloc, list, begun.shared, readers)?;
     let writer = Box::new(alloc, writer)?;
     let passes = new_passes(alloc, passes)?;

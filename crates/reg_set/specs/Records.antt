@@ -1,6 +1,6 @@
 -- Finite sets of records, as the library has finite sets; their union is its union.
-use Rattle.std.specs.Prelude.{Bool, true, ◌&&◌, List, [], ◌∷◌}
-use Rattle.std.specs.FinSet.{FinSet, items}
+use Rattle.std.specs.Prelude.{◌≡◌, Bool, true, ◌&&◌, List, [], ◌∷◌}
+use Rattle.std.specs.FinSet.{FinSet, from_list, items}
 use Rattle.std.specs.List.{list_all}
 use Rattle.std.specs.Ordering.{is_lt, match_ordering}
 use Rattle.reg_records.specs.declared.record.Record.{Record}
@@ -27,3 +27,7 @@ in_order (r ∷ rs) = placed r (in_order rs)
 -- the records of a set, in order
 unfoldable pub records_of : Records → List Record
 records_of s = in_order (items s)
+
+-- a list in order has the records of its set, in order
+abbrev pub ListsInOrderAreAll : Type 0
+ListsInOrderAreAll = (rs : List Record) → is_in_order rs ≡ true → records_of (from_list rs) ≡ rs

@@ -3,6 +3,7 @@
 ghost use Rattle.std.specs.Cmp.{IsTotalOrder};
 ghost use Rattle.std.specs.FinSet.{IsAntisymmetric};
 ghost use Rattle.reg_set.specs.RecordOrder.{age_cmp, key_cmp, record_cmp};
+ghost use Rattle.reg_set.specs.Records.{ListsInOrderAreAll};
 ghost use Rattle.reg_set.specs.Join.{LastIsGreatest, NoLastIsNoRecord, LastOfLastRecords, MergingIsCommutative, MergingIsAssociative, MergingIsIdempotent, LastOfUnion, LastOfPart, KeepingLastsUnites, EachKeepsItsLasts, KeepingLastsComposes, DropsKeepLasts, LastRecordsKeepLasts, LastRecordsOfPart, LastRecordsOfInsert, LastRecordsOfUnion};
 
 /// Records, and records of one key, are totally ordered, and only equal records tie.
@@ -12,6 +13,11 @@ pub fn records_are_ordered()
     ensures of_one_key { IsTotalOrder age_cmp }
     ensures keys { IsTotalOrder key_cmp }
     ensures keys_apart { IsAntisymmetric key_cmp }
+{}
+
+/// A list in order has the records of its set as they are listed: there is no other such list.
+pub fn records_are_listed_in_order()
+    ensures { ListsInOrderAreAll }
 {}
 
 /// The last record of a key is the greatest of its records.

@@ -13,6 +13,6 @@ mod with_text;
 pub use last_records::LastRecords;
 pub use laws::{
     keeping_lasts_composes, last_is_greatest, last_records_are_enough, last_records_of_unions,
-    merging_joins_sets, records_are_ordered,
+    merging_joins_sets, records_are_listed_in_order, records_are_ordered,
 };
 pub use record_set::{RecordSet, TakeOutcome, is_compaction_below, keeps_lasts};

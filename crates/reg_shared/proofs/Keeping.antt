@@ -1,17 +1,18 @@
 -- The kept records: the last ones, and older ones beside them.
-use Rattle.std.proofs.Common.{◌≡◌, ℕ, Bool, true, false, ◌&&◌, ◌||◌, not, List, [], ◌∷◌, ◌++◌, refl, sym, ap, ◌∙◌}
+use Rattle.std.proofs.Common.{◌≡◌, ℕ, Bool, true, false, cond, ◌&&◌, ◌||◌, not, List, [], ◌∷◌, ◌++◌, refl, sym, ap, ◌∙◌, arith}
 use Rattle.std.specs.Bool.{nat_le, nat_lt}
-use Rattle.std.proofs.lemmas.Bool.{false≢true}
+use Rattle.std.proofs.lemmas.Bool.{false≢true, le-leb}
 use Rattle.std.specs.Cmp.{IsTotalOrder}
 use Rattle.std.specs.FinSet.{contains, from_list, union, IsAntisymmetric, contains-union, same_set}
-use Rattle.std.specs.List.{filter, list_all}
+use Rattle.std.specs.List.{filter, list_all, list_any}
+use Rattle.std.specs.Ordering.{eq_by_cmp}
 use Rattle.reg_records.specs.declared.record.Record.{Record}
 use Rattle.reg_set.specs.LastRecords.{is_last, last_records}
 use Rattle.reg_set.specs.RecordOrder.{record_cmp}
 use Rattle.reg_set.specs.Records.{Records}
 use Rattle.reg_shared.specs.Held.{IsBelow, IsSince}
 use Rattle.reg_shared.specs.Kept.{kept_of}
-use Rattle.reg_shared.proofs.Members.{filtered, in_lasts, in_list, joined, right}
+use Rattle.reg_shared.proofs.Members.{filtered, in_lasts, in_list, itself, joined, right}
 
 -- Tests of one record: whether it is among those by offset, kept, a last one, an older one, gone.
 found_kept : (b f k : Bool) → (k ≡ true → b ≡ true) → ((b && f) && k) ≡ (k && f)
@@ -64,7 +65,7 @@ not_false : (b : Bool) → not b ≡ true → b ≡ false
 not_false false e = refl
 not_false true e = absurd (false≢true e)
 
-second_true : (a b : Bool) → (a && b) ≡ true → b ≡ true
+pub second_true : (a b : Bool) → (a && b) ≡ true → b ≡ true
 second_true true b e = e
 second_true false b e = absurd (false≢true e)
 
@@ -90,6 +91,22 @@ module _ (order : IsTotalOrder record_cmp) (apart : IsAntisymmetric record_cmp) 
       (filtered order apart (λ q. nat_le from q.offset) by_offset r)
       ∙ ap (λ b. (contains (from_list {R = record_cmp} by_offset) r && nat_le from r.offset) && b) (sym (is_kept lasts older r))
       ∙ found_kept (contains (from_list {R = record_cmp} by_offset) r) (nat_le from r.offset) (contains (kept_of lasts older) r) (among r)
+
+  -- all records pass where each is kept and none is below the offset
+  pub all_since : (kept : Record → Bool) (xs : List Record)
+      → ((r : Record) → contains (from_list {R = record_cmp} xs) r ≡ true → kept r ≡ true) → xs ≡ filter kept (filter (λ q. nat_le 0 q.offset) xs)
+  all_since kept xs all = sym (
+      ap (filter kept) (filter_all (λ q. nat_le 0 q.offset) xs (λ r h. le-leb 0 r.offset (omega arith)))
+      ∙ filter_all kept xs all)
+    where
+      filter_all : (p : Record → Bool) (rs : List Record) → ((r : Record) → contains (from_list {R = record_cmp} rs) r ≡ true → p r ≡ true)
+          → filter p rs ≡ rs
+      filter_all p [] all = refl
+      filter_all p (r ∷ rs) all =
+          let here : p r ≡ true = all r (in_list order apart (r ∷ rs) r ∙ ap (λ b. b || list_any (eq_by_cmp record_cmp r) rs) (itself order apart r)) in
+          let rest = filter_all p rs (λ q h. all q (
+          in_list order apart (r ∷ rs) q ∙ right (eq_by_cmp record_cmp q r) _ (sym (in_list order apart rs q) ∙ h))) in
+          ap (λ b. cond b (r ∷ filter p rs) (filter p rs)) here ∙ ap (λ qs. r ∷ qs) rest
 
   pub below_is : (lasts : Records) (older by_offset found : List Record) (upto : ℕ)
       → ((r : Record) → contains (kept_of lasts older) r ≡ true → contains (from_list {R = record_cmp} by_offset) r ≡ true)
@@ -125,6 +142,21 @@ module _ (order : IsTotalOrder record_cmp) (apart : IsAntisymmetric record_cmp) 
       either : (w x b : Bool) → (w ≡ true → x ≡ true) → (w || b) ≡ true → (x || b) ≡ true
       either true x b f e = ap (λ y. y || b) (f refl)
       either false x b f e = right x b e
+
+  -- where all of these are kept, so are all with the batch
+  pub all_more : (whole : Records) (xs ys batch : List Record)
+      → ((r : Record) → contains (from_list {R = record_cmp} xs) r ≡ true → contains whole r ≡ true) → ys ≡ xs ++ batch
+      → (r : Record) → contains (from_list {R = record_cmp} ys) r ≡ true → contains (union whole (from_list batch)) r ≡ true
+  all_more whole xs ys batch all is r h =
+      contains-union order whole (from_list batch) r
+      ∙ either (contains (from_list {R = record_cmp} xs) r) (contains whole r) (contains (from_list {R = record_cmp} batch) r)
+      (all r) (
+      sym (contains-union order (from_list xs) (from_list batch) r) ∙ ap (λ s. contains s r) (sym (joined order apart xs batch))
+      ∙ ap (λ l. contains (from_list {R = record_cmp} l) r) (sym is) ∙ h)
+    where
+      either : (x w b : Bool) → (x ≡ true → w ≡ true) → (x || b) ≡ true → (w || b) ≡ true
+      either true w b f e = ap (λ y. y || b) (f refl)
+      either false w b f e = right w b e
 
   -- and with no older ones, among those that are last ones
   pub among_lasts : (lasts : Records) (older by_offset : List Record) → older ≡ []

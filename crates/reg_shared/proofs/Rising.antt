@@ -17,6 +17,7 @@ use Rattle.reg_set.specs.Compaction.{deletes_below}
 use Rattle.reg_set.specs.RecordOrder.{record_cmp}
 use Rattle.reg_set.specs.Records.{is_in_order}
 use Rattle.reg_shared.specs.Kept.{IsRising}
+use Rattle.reg_shared.proofs.Members.{both}
 
 both_true : (a b : Bool) → (a && b) ≡ true → (a ≡ true) × (b ≡ true)
 both_true true b h = (refl, h)
@@ -37,40 +38,68 @@ all_filter P p (x ∷ xs) h = elim (p x) as (λ b. AllByRecursion P (cond b (x �
   | false ↦ all_filter P p xs h.1
 ]
 
-pub rising_filter : (p : Record → Bool) (xs : List Record) → IsRising xs → IsRising (filter p xs)
-rising_filter p [] h = tt
-rising_filter p (x ∷ xs) h = elim (p x) as (λ b. IsRising (cond b (x ∷ filter p xs) (filter p xs))) [
-  | true ↦ (all_filter (λ q. x.offset ≤ q.offset) p xs h.0, rising_filter p xs h.1)
-  | false ↦ rising_filter p xs h.1
-]
+list_all_filter : (t p : Record → Bool) (xs : List Record) → list_all t xs ≡ true → list_all t (filter p xs) ≡ true
+list_all_filter t p [] h = refl
+list_all_filter t p (x ∷ xs) h =
+    let parts = both_true (t x) (list_all t xs) h in
+    elim (p x) as (λ b. list_all t (cond b (x ∷ filter p xs) (filter p xs)) ≡ true) [
+      | true ↦ both parts.0 (list_all_filter t p xs parts.1)
+      | false ↦ list_all_filter t p xs parts.1
+    ]
 
-pub rising_append : (n : ℕ) (xs ys : List Record) → IsRising xs → IsRising ys
-    → AllByRecursion (λ r. r.offset < n) xs → AllByRecursion (λ r. n ≤ r.offset) ys → IsRising (xs ++ ys)
-rising_append n [] ys a b below above = b
-rising_append n (x ∷ xs) ys a b below above =
-    let low : x.offset < n = below.0 in (
-      all_append (λ q. x.offset ≤ q.offset) xs ys a.0
-          (all_map (λ r. n ≤ r.offset) (λ q. x.offset ≤ q.offset) (λ q h. omega arith) ys above),
-      rising_append n xs ys a.1 b below.1 above,
-    )
+list_all_append : (t : Record → Bool) (xs ys : List Record) → list_all t xs ≡ true → list_all t ys ≡ true → list_all t (xs ++ ys) ≡ true
+list_all_append t [] ys a b = b
+list_all_append t (x ∷ xs) ys a b =
+    let parts = both_true (t x) (list_all t xs) a in both parts.0 (list_all_append t xs ys parts.1 b)
+
+-- what stands at a smaller offset stands before
+first_less : (m n : ℕ) (o : Ordering) → m < n → is_lt (ordering_then (nat_cmp m n) o) ≡ true
+first_less m n o h = grind (arith, nat_tests)
+
+before : (r q : Record) → r.offset < q.offset → is_lt (record_cmp r q) ≡ true
+unfolding record_cmp
+before r q h = first_less r.offset q.offset _ h
+
+all_before : (r : Record) (rs : List Record) → AllByRecursion (λ q. r.offset < q.offset) rs
+    → list_all (λ q. is_lt (record_cmp r q)) rs ≡ true
+all_before r [] h = refl
+all_before r (q ∷ rs) h = both (before r q h.0) (all_before r rs h.1)
+
+pub in_order_filter : (p : Record → Bool) (xs : List Record) → is_in_order xs ≡ true → is_in_order (filter p xs) ≡ true
+in_order_filter p [] h = refl
+in_order_filter p (x ∷ xs) h =
+    let parts = both_true (list_all (λ q. is_lt (record_cmp x q)) xs) (is_in_order xs) h in
+    elim (p x) as (λ b. is_in_order (cond b (x ∷ filter p xs) (filter p xs)) ≡ true) [
+      | true ↦ both (list_all_filter (λ q. is_lt (record_cmp x q)) p xs parts.0) (in_order_filter p xs parts.1)
+      | false ↦ in_order_filter p xs parts.1
+    ]
+
+pub in_order_append : (n : ℕ) (xs ys : List Record) → is_in_order xs ≡ true → is_in_order ys ≡ true
+    → AllByRecursion (λ r. r.offset < n) xs → AllByRecursion (λ r. n ≤ r.offset) ys → is_in_order (xs ++ ys) ≡ true
+in_order_append n [] ys a b below above = b
+in_order_append n (x ∷ xs) ys a b below above =
+    let low : x.offset < n = below.0 in
+    let parts = both_true (list_all (λ q. is_lt (record_cmp x q)) xs) (is_in_order xs) a in
+    let later = all_before x ys (all_map (λ r. n ≤ r.offset) (λ q. x.offset < q.offset) (λ q h. omega arith) ys above) in
+    both (list_all_append (λ q. is_lt (record_cmp x q)) xs ys parts.0 later) (in_order_append n xs ys parts.1 b below.1 above)
 
 -- a batch that goes on
 pub record GoesOn (n : ℕ) (rs : List Record) : Type 0 where
   pub above : AllByRecursion (λ r. n ≤ r.offset) rs
-  pub rises : IsRising rs
+  pub in_order : is_in_order rs ≡ true
   pub below : AllByRecursion (λ r. r.offset < n + length rs) rs
 
 same_number : (m n : ℕ) → (m == n) ≡ true → m ≡ n
 same_number m n h = grind (arith, nat_tests)
 
 pub goes_on_is : (n : ℕ) (rs : List Record) → goes_on n rs ≡ true → GoesOn n rs
-goes_on_is n [] h = record { above = tt; rises = tt; below = tt }
+goes_on_is n [] h = record { above = tt; in_order = refl; below = tt }
 goes_on_is n (r ∷ rs) h =
     let parts = both_true (r.offset == n) (goes_on (suc n) rs) h in
     let here : r.offset ≡ n = same_number r.offset n parts.0 in
     let rest = goes_on_is (suc n) rs parts.1 in record {
       above = (omega arith, all_map (λ q. suc n ≤ q.offset) (λ q. n ≤ q.offset) (λ q h. omega arith) rs rest.above);
-      rises = (all_map (λ q. suc n ≤ q.offset) (λ q. r.offset ≤ q.offset) (λ q h. omega arith) rs rest.above, rest.rises);
+      in_order = both (all_before r rs (all_map (λ q. suc n ≤ q.offset) (λ q. r.offset < q.offset) (λ q h. omega arith) rs rest.above)) rest.in_order;
       below = (
         omega arith,
         all_map (λ q. q.offset < suc n + length rs) (λ q. q.offset < n + suc (length rs)) (λ q h. omega arith) rs rest.below,

@@ -6,7 +6,7 @@ use Rattle.reg_records.specs.declared.record.Record.{Record}
 use Rattle.reg_set.specs.Compaction.{is_gone}
 use Rattle.reg_set.specs.LastRecords.{last, last_records}
 use Rattle.reg_set.specs.RecordOrder.{record_cmp}
-use Rattle.reg_set.specs.Records.{Records}
+use Rattle.reg_set.specs.Records.{Records, is_in_order}
 
 -- the last records, and the older ones beside them
 abbrev pub kept_of : Records → List Record → Records
@@ -26,9 +26,11 @@ abbrev pub IsRising : List Record → Type 0
 IsRising [] = Unit {0}
 IsRising (r ∷ rs) = AllByRecursion (λ q. r.offset ≤ q.offset) rs × IsRising rs
 
--- the registry over the kept records, which stand among those by offset, which rise and are below the next offset
-pub record IsShared (registry : Records) (older by_offset : List Record) (next : ℕ) : Type 0 where
+-- the registry over the kept records, which stand among those by offset, which are in order and below the next offset. Where none was
+-- dropped they are all there.
+pub record IsShared (registry : Records) (older by_offset : List Record) (next dropped : ℕ) : Type 0 where
   pub of_kept : registry ≡ last_records (kept_of registry older)
   pub among : (r : Record) → contains (kept_of registry older) r ≡ true → contains (from_list {R = record_cmp} by_offset) r ≡ true
-  pub rising : IsRising by_offset
+  pub all_kept : dropped ≡ 0 → (r : Record) → contains (from_list {R = record_cmp} by_offset) r ≡ true → contains (kept_of registry older) r ≡ true
+  pub in_order : is_in_order by_offset ≡ true
   pub below : AllByRecursion (λ r. r.offset < next) by_offset

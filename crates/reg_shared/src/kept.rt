@@ -23,7 +23,7 @@ const PART: usize = 8;
 const LEAST: usize = 64;
 
 /// The records at or above an offset.
-pub(crate) fn since(by_offset: &[Record], from: u64) -> &[Record]
+fn since(by_offset: &[Record], from: u64) -> &[Record]
     requires { IsRising by_offset.now }
     ensures { result.now ≡ filter (λ r. nat_le from r.offset) by_offset.now }
 {
@@ -90,8 +90,36 @@ fn is_listed(older: &[Record], given: &Record) -> bool
     older.contains(given)
 }
 
-/// Copies of those of the records that are kept. The only error is out of memory.
-pub(crate) fn copy_kept(
+/// Copies of those of the records by offset that are kept, at or above an offset. Where all are asked for, and none
+/// was dropped, none is sought, and the copies bring no text along: who asks for all has the registry too. The only
+/// error is out of memory.
+pub(crate) fn copy_since(
+    alloc: Global,
+    registry: &Registry,
+    older: &[Record],
+    by_offset: &[Record],
+    from: u64,
+    dropped: usize,
+) -> Result<Vec<Record>, AllocError>
+    requires rising { IsRising by_offset.now }
+    requires all_kept { dropped ≡ 0 → (r : Record) → contains (from_list {R = record_cmp} by_offset.now) r ≡ true
+        → (contains registry.now r || contains (from_list {R = record_cmp} older.now) r) ≡ true }
+    ensures { IfOk result (λ found. found.items
+        ≡ filter (λ r. contains registry.now r || contains (from_list {R = record_cmp} older.now) r) (filter (λ q. nat_le from q.offset) by_offset.now)) }
+{
+    records_are_ordered();
+    if from == 0 && dropped == 0 {
+        let all = copy_all(alloc, by_offset)?;
+        return Ok(all);
+    }
+    let later = since(by_offset, from);
+    let found = copy_kept(alloc, registry, older, later)?;
+    Ok(found)
+}
+
+/// Copies of those of the records that are kept, with the texts that the registry has. The only error is out of
+/// memory.
+fn copy_kept(
     alloc: Global,
     registry: &Registry,
     older: &[Record],
@@ -261,6 +289,15 @@ pub(crate) fn copy_list(alloc: Global, records: &[Record]) -> Result<Vec<Record>
 {
     let mut copy = Vec::new(alloc);
     copy.reserve_exact(records.len().saturating_add(spare(records.len())))?;
+    push_all(&mut copy, records)?;
+    Ok(copy)
+}
+
+/// Copies of all records. The only error is out of memory.
+pub(crate) fn copy_all(alloc: Global, records: &[Record]) -> Result<Vec<Record>, AllocError>
+    ensures { IfOk result (λ copy. copy.items ≡ records.now) }
+{
+    let mut copy = Vec::new(alloc);
     push_all(&mut copy, records)?;
     Ok(copy)
 }

@@ -1,17 +1,18 @@
 // What the topic's list folds to.
-ghost use Rattle.std.specs.Prelude.{◌≡◌, ◌<◌, ◌≤◌, true, false, IfErr, IfOk, OnErr, OnOk};
+ghost use Rattle.std.specs.Prelude.{◌≡◌, ◌<◌, ◌≤◌, true, false, IfErr, IfOk, IsTrue, OnErr, OnOk};
 ghost use Rattle.std.specs.FinSet.{from_list};
 ghost use Rattle.std.specs.List.{AllByRecursion};
 ghost use Rattle.reg_fold.specs.Closed.{is_closed};
 ghost use Rattle.reg_set.specs.LastRecords.{last_records};
+ghost use Rattle.reg_set.specs.Records.{is_in_order};
 ghost use Rattle.reg_leader.specs.Adoption.{HasPlace, IsAdoptRefusal};
 ghost use Rattle.reg_floored.specs.Floors.{compacted_to, may_leave, without};
 ghost use Rattle.reg_topic.specs.Topic.{follows, may_compact, owed_by, plain_topic, topic_from};
 ghost use Rattle.reg_shared.specs.Held.{IsBelow, IsSince, base_of, held_after_batch, held_after_compaction, held_of};
 
 use crate::kept::{
-    are_none, copy_below, copy_deletes, copy_kept, copy_left, copy_list, copy_older, grow,
-    keep_lasts, list_records, may_leave, push_all, since, until,
+    are_none, copy_all, copy_below, copy_deletes, copy_left, copy_list, copy_older, copy_since,
+    grow, keep_lasts, list_records, may_leave, until,
 };
 use reg_feed::{FeedName, Fold};
 use reg_floored::compacting_drops_what_may_leave;
@@ -40,7 +41,7 @@ pub struct Shared {
     older: Vec<Record>,
     // All kept records, by offset, among some that were dropped.
     by_offset: Vec<Record>,
-    // How many were dropped since only kept ones stood there.
+    // How many were dropped since only kept ones stood there: 0 where all that stand there are kept.
     dropped: usize,
     floor: u64,
     next: u64,
@@ -66,7 +67,7 @@ impl Model for Shared {
 
     ghost view = { λ s. record { kept = record { records = kept_of s.registry s.older.items; floor = s.floor }; next = s.next; compacted = s.compacted } };
 
-    ghost invariant = { λ s. IsShared s.registry s.older.items s.by_offset.items s.next };
+    ghost invariant = { λ s. IsShared s.registry s.older.items s.by_offset.items s.next s.dropped };
 }
 
 impl Shared {
@@ -143,14 +144,21 @@ impl Shared {
         self.compacted
     }
 
-    /// Copies of the kept records at or above an offset. The only error is out of memory.
+    /// Copies of the kept records at or above an offset, in their order. The only error is out of memory.
     pub fn since(&self, from: u64) -> Result<Vec<Record>, AllocError>
         ensures all { IfOk result (λ found. IsSince self.now.kept.records from found.items) }
+        ensures in_order { IfOk result (λ found. IsTrue (is_in_order found.items)) }
         ensures below { IfOk result (λ found. AllByRecursion (λ r. r.offset < self.now.next) found.items) }
     {
         records_are_ordered();
-        let later = since(&self.by_offset, from);
-        let found = copy_kept(self.alloc, &self.registry, &self.older, later)?;
+        let found = copy_since(
+            self.alloc,
+            &self.registry,
+            &self.older,
+            &self.by_offset,
+            from,
+            self.dropped,
+        )?;
         Ok(found)
     }
 
@@ -241,7 +249,8 @@ impl Shared {
         }
         self.older = left;
         self.registry.forget_all(dropped);
-        self.dropped = self.dropped.saturating_add(dropped.len());
+        // It counts for one at least, since what is left isn't looked at.
+        self.dropped = self.dropped.saturating_add(dropped.len()).max(1);
         self.floor = compaction.floor;
         self.compacted = self.next;
         Ok(())
@@ -300,14 +309,11 @@ impl Clone for Shared {
     ghost is_clone = { λ shared copy. copy ≡ shared };
 
     fn clone(&self) -> Result<Shared, AllocError> {
-        let mut older = Vec::new(self.alloc);
-        push_all(&mut older, &self.older)?;
-        let by_offset = copy_list(self.alloc, &self.by_offset)?;
         Ok(Shared {
             alloc: self.alloc,
             registry: self.registry.clone()?,
-            older,
-            by_offset,
+            older: copy_all(self.alloc, &self.older)?,
+            by_offset: copy_list(self.alloc, &self.by_offset)?,
             dropped: self.dropped,
             floor: self.floor,
             next: self.next,

@@ -1,4 +1,4 @@
-use Rattle.std.proofs.Common.{rules, ◌≡◌, ◌≤◌, true, false, ◌&&◌, not, is_none, List, sym, ap, subst, ◌∙◌}
+use Rattle.std.proofs.Common.{rules, ◌≡◌, ◌≤◌, true, false, ◌&&◌, not, is_none, List, sym, ap, subst, ◌∙◌, arith}
 use Rattle.std.specs.FinSet.{contains, difference, from_list}
 use Rattle.std.specs.List.{filter, list_all}
 use Rattle.reg_records.specs.declared.record.Record.{Record}
@@ -49,7 +49,8 @@ invariant_of-self c =
           c.self.invariant.among r (
           part o.all o.apart g.greatest g.none lasts xs ds floor c.self.invariant.of_kept may r
           (ap (λ (s : Records). contains s r) (sym kept) ∙ h));
-      rising = c.self.invariant.rising;
+      all_kept = λ none. absurd (omega arith);
+      in_order = c.self.invariant.in_order;
       below = c.self.invariant.below;
     }
 

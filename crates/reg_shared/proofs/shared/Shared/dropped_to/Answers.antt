@@ -1,4 +1,4 @@
-use Rattle.std.proofs.Common.{◌≡◌, true, ◌&&◌, ◌++◌, not, nat_lt, List, ap, subst, ◌∙◌}
+use Rattle.std.proofs.Common.{◌≡◌, true, ◌&&◌, ◌++◌, not, nat_lt, List, sym, ap, subst, ◌∙◌}
 use Rattle.std.specs.FinSet.{contains}
 use Rattle.std.specs.List.{filter}
 use Rattle.reg_records.specs.declared.record.Record.{Record}
@@ -6,10 +6,15 @@ use Rattle.reg_set.specs.Compaction.{deletes_below}
 use Rattle.reg_set.specs.Records.{Records}
 use Rattle.reg_floored.specs.Floors.{compacted_to, may_leave, without}
 use Rattle.reg_shared.specs.Held.{Held}
-use Rattle.reg_shared.specs.Kept.{kept_of}
+use Rattle.reg_shared.specs.Kept.{IsRising, kept_of}
 use Rattle.reg_shared.proofs.Leaving.{dropped_are}
-use Rattle.reg_shared.proofs.Rising.{below_twice}
+use Rattle.reg_shared.proofs.Rising.{below_twice, rising_in_order}
 use Rattle.reg_shared.proofs.shared.Shared.dropped_to.Goals as goal
+
+pub until-below-requires : goal.until-below-requires
+until-below-requires c =
+    let xs : List Record = c.self.inside.by_offset.items in
+    subst IsRising (sym c.deref-2.ensures.value) (rising_in_order xs c.self.invariant.in_order)
 
 pub returns-clause-may_go : goal.returns-clause-may_go
 returns-clause-may_go c =

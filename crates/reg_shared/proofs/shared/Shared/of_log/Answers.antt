@@ -9,7 +9,6 @@ use Rattle.reg_shared.specs.Held.{Held}
 use Rattle.reg_shared.specs.Kept.{kept_of}
 use Rattle.reg_shared.proofs.Keeping.{adopted_is}
 use Rattle.reg_shared.proofs.Members.{below_members}
-use Rattle.reg_shared.proofs.Rising.{rising_in_order}
 use Rattle.reg_shared.proofs.shared.Shared.of_log.Goals as goal
 
 pub invariant_of-result : goal.invariant_of-result
@@ -26,7 +25,8 @@ invariant_of-result c =
     record {
       of_kept = are ∙ ap last_records (sym kept);
       among = λ r h. ap (λ (s : Records). contains s r) (sym kept) ∙ h;
-      rising = rising_in_order rs c.in_ok-by_offset.ensures.in_order;
+      all_kept = λ _ r h. ap (λ (s : Records). contains s r) kept ∙ h;
+      in_order = c.in_ok-by_offset.ensures.in_order;
       below = below_members o.all o.apart b.next b.records.items rs b.ahead same;
     }
 

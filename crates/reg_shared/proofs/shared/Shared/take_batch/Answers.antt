@@ -3,14 +3,14 @@ use Rattle.std.specs.FinSet.{contains, from_list, union}
 use Rattle.std.specs.List.{AllByRecursion}
 use Rattle.reg_records.specs.declared.record.Record.{Record}
 use Rattle.reg_set.specs.LastRecords.{last_records}
-use Rattle.reg_set.specs.Records.{Records}
+use Rattle.reg_set.specs.Records.{Records, is_in_order}
 use Rattle.reg_topic.specs.Topic.{follows}
 use Rattle.reg_shared.specs.Held.{Held, held_after_batch}
-use Rattle.reg_shared.specs.Kept.{IsRising, kept_of}
+use Rattle.reg_shared.specs.Kept.{kept_of}
 use Rattle.reg_shared.proofs.Growing.{grown_is}
 use Rattle.reg_shared.proofs.Held.{goes, held_grown}
-use Rattle.reg_shared.proofs.Keeping.{among_more}
-use Rattle.reg_shared.proofs.Rising.{all_append, all_map, goes_on_is, rising_append}
+use Rattle.reg_shared.proofs.Keeping.{all_more, among_more}
+use Rattle.reg_shared.proofs.Rising.{all_append, all_map, goes_on_is, in_order_append}
 use Rattle.reg_shared.proofs.shared.Shared.take_batch.Goals as goal
 
 pub invariant_of-self-2 : goal.invariant_of-self-2
@@ -36,7 +36,10 @@ invariant_of-self-2 c =
       among = λ r h.
           among_more o.all o.apart whole xs c.grow.new.by_offset.items batch c.self.invariant.among is r
           (ap (λ (s : Records). contains s r) (sym kept) ∙ h);
-      rising = subst IsRising (sym is) (rising_append next xs batch c.self.invariant.rising on.rises c.self.invariant.below on.above);
+      all_kept = λ none r h. ap (λ (s : Records). contains s r) kept
+          ∙ all_more o.all o.apart whole xs c.grow.new.by_offset.items batch (c.self.invariant.all_kept none) is r h;
+      in_order = ap is_in_order is
+          ∙ in_order_append next xs batch c.self.invariant.in_order on.in_order c.self.invariant.below on.above;
       below = subst (AllByRecursion (λ r. r.offset < next + length batch)) (sym is)
           (all_append (λ r. r.offset < next + length batch) xs batch (
           all_map (λ r. r.offset < next) (λ r. r.offset < next + length batch) (λ r h. omega arith) xs c.self.invariant.below) on.below);
