@@ -1,12 +1,15 @@
 -- Members of sets that lists of records make.
-use Rattle.std.proofs.Common.{◌≡◌, ℕ, ◌<◌, Bool, true, false, ◌&&◌, ◌||◌, List, [], ◌∷◌, ◌++◌, refl, sym, ap, subst, ◌∙◌, All}
-use Rattle.std.proofs.lemmas.Bool.{false≢true}
+use Rattle.std.proofs.Common.{◌≡◌, ℕ, ◌<◌, Bool, true, false, ◌&&◌, ◌||◌, List, [], ◌∷◌, ◌++◌, refl, sym, ap, subst, ◌∙◌, All, arith}
+use Rattle.std.proofs.lemmas.Bool.{false≢true, le-leb}
 use Rattle.std.proofs.lemmas.List.Elements.{All-head, All-tail}
 use Rattle.std.proofs.lemmas.List.Folds.{list_any-append}
+use Rattle.std.proofs.lemmas.List.Sorted.{list_any-IsPermutation}
 use Rattle.std.proofs.lemmas.Map.Views.{any-filter_same}
 use Rattle.std.specs.Cmp.{IsTotalOrder}
 use Rattle.std.specs.FinSet.{contains, from_list, union, IsAntisymmetric, contains-from_list, contains-retain, contains-union, same_set}
+use Rattle.std.specs.Bool.{nat_le}
 use Rattle.std.specs.List.{AllByRecursion, filter, list_any}
+use Rattle.std.specs.List.Sorted.{IsPermutation}
 use Rattle.std.proofs.lemmas.Cmp.{tied_itself}
 use Rattle.std.specs.Ordering.{eq_by_cmp, is_eq}
 use Rattle.reg_records.specs.contracts.record.RecordPartialEq.TheImpl as equality
@@ -88,3 +91,21 @@ module _ (order : IsTotalOrder record_cmp) (apart : IsAntisymmetric record_cmp) 
   -- what a search by `==` finds
   pub stands : (rs : List Record) (r : Record) → list_any (λ q. (equality.ghosts).eq q r) rs ≡ contains (from_list {R = record_cmp} rs) r
   stands rs r = any_same (λ q. (equality.ghosts).eq q r) (eq_by_cmp record_cmp r) (λ q. eq-by_cmp order apart q r) rs ∙ sym (in_list rs r)
+
+  pub permuted : (xs ys : List Record) → IsPermutation xs ys → from_list {R = record_cmp} xs ≡ from_list ys
+  permuted xs ys h =
+      same_set order apart (from_list xs) (from_list ys)
+      (λ q. in_list xs q ∙ list_any-IsPermutation (eq_by_cmp record_cmp q) xs ys h ∙ sym (in_list ys q))
+
+  -- a record is among others where it is among those at its offset
+  pub at_its_offset : (rs : List Record) (q : Record)
+      → contains (from_list {R = record_cmp} (filter (λ r. nat_le r.offset q.offset) (filter (λ r. nat_le q.offset r.offset) rs))) q
+      ≡ contains (from_list {R = record_cmp} rs) q
+  at_its_offset rs q =
+      filtered (λ r. nat_le r.offset q.offset) (filter (λ r. nat_le q.offset r.offset) rs) q
+      ∙ ap (λ b. b && nat_le q.offset q.offset) (filtered (λ r. nat_le q.offset r.offset) rs q)
+      ∙ twice (contains (from_list {R = record_cmp} rs) q) (nat_le q.offset q.offset) (le-leb q.offset q.offset (omega arith))
+    where
+      twice : (b t : Bool) → t ≡ true → ((b && t) && t) ≡ b
+      twice true t e = ap (λ a. a && a) e
+      twice false t e = refl

@@ -6,9 +6,9 @@ use Rattle.std.specs.Bool.{nat_lt, nat_le}
 use Rattle.std.proofs.lemmas.Bool.{false≢true}
 use Rattle.std.proofs.lemmas.Bool.Decides.{nat_tests}
 use Rattle.std.proofs.lemmas.List.Elements.{All-from_recursion}
-use Rattle.std.proofs.lemmas.List.Sorted.{IsPartitionedBy-ltb}
+use Rattle.std.proofs.lemmas.List.Sorted.{IsPartitionedBy-leb, IsPartitionedBy-ltb}
 use Rattle.std.specs.List.{AllByRecursion, filter, list_all}
-use Rattle.std.specs.List.Sorted.{IsPartitionedBy}
+use Rattle.std.specs.List.Sorted.{IsNonDecreasingBy, IsPartitionedBy}
 use Rattle.std.specs.Ordering.{is_lt, nat_cmp, ordering_then}
 use Rattle.std.specs.declared.cmp.Ordering.{Ordering}
 use Rattle.reg_leader.specs.OneStep.{goes_on}
@@ -127,6 +127,25 @@ rising_in_order (r ∷ rs) h =
     let parts = both_true (list_all (λ q. is_lt (record_cmp r q)) rs) (is_in_order rs) h in
     (all_later r rs parts.0, rising_in_order rs parts.1)
 
+all_from : (P : Record → Type 0) (xs : List Record) → ((k : ℕ) (d : Record) → k < length xs → P (get_or xs k d)) → AllByRecursion P xs
+all_from P [] h = tt
+all_from P (x ∷ xs) h = (h 0 x (omega arith), all_from P xs (λ k d lt. h (suc k) d (omega arith)))
+
+-- sorted records rise
+pub rising_sorted : (xs : List Record) → IsNonDecreasingBy (λ r. r.offset) xs → IsRising xs
+rising_sorted [] h = tt
+rising_sorted (x ∷ xs) h = (
+  all_from (λ q. x.offset ≤ q.offset) xs (λ k d lt. h 0 (suc k) d (omega arith) (omega arith)),
+  rising_sorted xs (λ i j d le lt. h (suc i) (suc j) d (omega arith) (omega arith)),
+)
+
+pub rising_filter : (p : Record → Bool) (xs : List Record) → IsRising xs → IsRising (filter p xs)
+rising_filter p [] h = tt
+rising_filter p (x ∷ xs) h = elim (p x) as (λ b. IsRising (cond b (x ∷ filter p xs) (filter p xs))) [
+  | true ↦ (all_filter (λ q. x.offset ≤ q.offset) p xs h.0, rising_filter p xs h.1)
+  | false ↦ rising_filter p xs h.1
+]
+
 -- what stands at or above an offset
 rises : (xs : List Record) → IsRising xs → (i j : ℕ) (d : Record) → i ≤ j → j < length xs → (get_or xs i d).offset ≤ (get_or xs j d).offset
 rises [] h i j d le lt = absurd (omega arith)
@@ -137,6 +156,9 @@ rises (x ∷ xs) h (suc i) (suc j) d le lt = rises xs h.1 i j d (omega arith) (o
 
 pub parted : (from : ℕ) (xs : List Record) → IsRising xs → IsPartitionedBy (λ r. nat_lt r.offset from) xs
 parted from xs h = IsPartitionedBy-ltb (λ r. r.offset) xs from (λ i j d le lt. rises xs h i j d le lt)
+
+pub parted_up_to : (offset : ℕ) (xs : List Record) → IsRising xs → IsPartitionedBy (λ r. nat_le r.offset offset) xs
+parted_up_to offset xs h = IsPartitionedBy-leb (λ r. r.offset) xs offset (λ i j d le lt. rises xs h i j d le lt)
 
 pub at_or_above : (from n : ℕ) → nat_le from n ≡ not (nat_lt n from)
 at_or_above from n = grind (arith, nat_tests)

@@ -8,6 +8,7 @@ ghost use Rattle.reg_set.specs.RecordOrder.{record_cmp};
 ghost use Rattle.reg_set.specs.Records.{Records, is_in_order};
 ghost use Rattle.reg_shared.specs.Kept.{IsRising, lasts_at, may_go};
 
+use crate::sought::Sought;
 use reg_floored::{deletes_below, is_gone};
 use reg_fold::Registry;
 use reg_records::Record;
@@ -23,7 +24,7 @@ const PART: usize = 8;
 const LEAST: usize = 64;
 
 /// The records at or above an offset.
-fn since(by_offset: &[Record], from: u64) -> &[Record]
+pub(crate) fn since(by_offset: &[Record], from: u64) -> &[Record]
     requires { IsRising by_offset.now }
     ensures { result.now ≡ filter (λ r. nat_le from r.offset) by_offset.now }
 {
@@ -49,21 +50,17 @@ pub(crate) fn until(by_offset: &[Record], upto: u64) -> &[Record]
 }
 
 /// Older records of which many are sought: their set, or none where a few are.
-fn sought_among(
-    alloc: Global,
-    older: &[Record],
-    count: usize,
-) -> Result<Option<RecordSet>, AllocError>
+fn sought_among(alloc: Global, older: &[Record], count: usize) -> Result<Option<Sought>, AllocError>
     ensures { IfOk result (λ found. IfSome found (λ set. set ≡ from_list older.now)) }
 {
     if count <= FEW {
         return Ok(None);
     }
-    Ok(Some(RecordSet::of(alloc, older)?))
+    Ok(Some(Sought::of(alloc, older)?))
 }
 
 /// Whether the record is the last of its key, or among the older ones, whose set may be given beside them.
-fn is_kept(registry: &Registry, older: &[Record], set: &Option<RecordSet>, given: &Record) -> bool
+fn is_kept(registry: &Registry, older: &[Record], set: &Option<Sought>, given: &Record) -> bool
     requires { IfSome set.now (λ set. set ≡ from_list older.now) }
     ensures { result ≡ (contains registry.now given.now || contains (from_list {R = record_cmp} older.now) given.now) }
 {
@@ -73,7 +70,7 @@ fn is_kept(registry: &Registry, older: &[Record], set: &Option<RecordSet>, given
 }
 
 /// Whether the record is among the older ones, whose set may be given beside them.
-fn is_among(older: &[Record], set: &Option<RecordSet>, given: &Record) -> bool
+fn is_among(older: &[Record], set: &Option<Sought>, given: &Record) -> bool
     requires { IfSome set.now (λ set. set ≡ from_list older.now) }
     ensures { result ≡ contains (from_list {R = record_cmp} older.now) given.now }
 {
@@ -83,7 +80,7 @@ fn is_among(older: &[Record], set: &Option<RecordSet>, given: &Record) -> bool
     }
 }
 
-fn is_listed(older: &[Record], given: &Record) -> bool
+pub(crate) fn is_listed(older: &[Record], given: &Record) -> bool
     ensures { result ≡ contains (from_list {R = record_cmp} older.now) given.now }
 {
     records_are_ordered();
@@ -201,7 +198,7 @@ pub(crate) fn copy_left(
     alloc: Global,
     registry: &Registry,
     older: &[Record],
-    gone: &RecordSet,
+    gone: &Sought,
 ) -> Result<Vec<Record>, AllocError>
     ensures { IfOk result (λ left. left.items ≡ filter (λ r. not (contains gone.now r) && not (contains registry.now r)) older.now) }
 {
@@ -217,7 +214,7 @@ pub(crate) fn copy_left(
 /// Whether the records may leave, where those older ones are left then, and that is the floor.
 pub(crate) fn may_leave(
     registry: &Registry,
-    older: &RecordSet,
+    older: &Sought,
     left: &RecordSet,
     floor: u64,
     dropped: &[Record],
@@ -231,13 +228,7 @@ pub(crate) fn may_leave(
 
 /// Whether the record may leave: it is a last one that deletes its key below the floor, of which none is
 /// left, or an older one.
-fn may_go(
-    registry: &Registry,
-    older: &RecordSet,
-    left: &RecordSet,
-    floor: u64,
-    given: &Record,
-) -> bool
+fn may_go(registry: &Registry, older: &Sought, left: &RecordSet, floor: u64, given: &Record) -> bool
     ensures { result ≡ may_go registry.now older.now left.now floor given.now }
 {
     if registry.contains(given) {

@@ -14,6 +14,7 @@ use crate::kept::{
     are_none, copy_all, copy_below, copy_deletes, copy_left, copy_list, copy_older, copy_since,
     grow, keep_lasts, list_records, may_leave, until,
 };
+use crate::sought::Sought;
 use reg_feed::{FeedName, Fold};
 use reg_floored::compacting_drops_what_may_leave;
 use reg_fold::Registry;
@@ -240,8 +241,8 @@ impl Shared {
         records_are_ordered();
         last_is_greatest();
         let dropped = compaction.dropped.as_slice();
-        let older = RecordSet::of(self.alloc, &self.older)?;
-        let gone = RecordSet::of(self.alloc, dropped)?;
+        let older = Sought::of(self.alloc, &self.older)?;
+        let gone = Sought::of(self.alloc, dropped)?;
         let left = copy_left(self.alloc, &self.registry, &self.older, &gone)?;
         let rest = RecordSet::of(self.alloc, &left)?;
         if !may_leave(&self.registry, &older, &rest, compaction.floor, dropped) {
