@@ -5,15 +5,10 @@ deletes of versions, registrations in new subjects.
 
 It is the time outside the kernel in all threads; of the fold, that of a run less that of one without commands."""
 import sys
-from kept import Kept, fold, head, request, row, schema, write_log
+from kept import KINDS, Kept, fold, head, request, row, write_log
 
 RECORDS, COMMANDS = (int((sys.argv + [""] * 2)[k] or given) for k, given in ((1, 20_000), (2, 5_000)))
 AT_ONCE, TURNS = 64, 3
-KINDS = {
-    "level of a subject": lambda k: request("PUT", "/config/s%d" % k, {"compatibility": "FULL"}),
-    "soft delete of a version": lambda k: request("DELETE", "/subjects/s%d/versions/1" % k),
-    "registration": lambda k: request("POST", "/subjects/n%d/versions" % k, {"schema": schema("normal", RECORDS + k)}),
-}
 
 
 def in_fold(log, requests):
@@ -36,7 +31,7 @@ log = write_log("normal", RECORDS)
 nothing = in_fold(log, [])
 head("command", "fold", "one node", "ratio", "three nodes", "ratio")
 for name, make in KINDS.items():
-    requests = [make(k) for k in range(1, COMMANDS + 1)]
+    requests = [make(RECORDS, k) for k in range(1, COMMANDS + 1)]
     folded = in_fold(log, requests) - nothing
     cells = ["%.1f us" % (folded / COMMANDS * 1e6)]
     for nodes in (1, 3):

@@ -41,14 +41,23 @@ def request(method, path, body=None):
     return ("%s %s HTTP/1.1\r\nHost: a\r\n%s\r\n%s" % (method, path, length, text)).encode()
 
 
-def fold(log, requests):
-    """User and system seconds of a fold of the log and the requests, and its peak memory in bytes."""
+# Kinds of commands: the k-th of each, over a log of so many records.
+KINDS = {
+    "level of a subject": lambda records, k: request("PUT", "/config/s%d" % k, {"compatibility": "FULL"}),
+    "soft delete of a version": lambda records, k: request("DELETE", "/subjects/s%d/versions/1" % k),
+    "registration": lambda records, k: request("POST", "/subjects/n%d/versions" % k, {"schema": schema("normal", records + k)}),
+}
+
+
+def fold(log, requests, under=()):
+    """User and system seconds of a fold of the log and the requests, and its peak memory in bytes. `under` are the words of a program
+    that runs it."""
     with open(FOLDER + "/in", "wb") as given:
         with open(log, "rb") as lines:
             shutil.copyfileobj(lines, given)
         given.writelines(requests)
     with open(FOLDER + "/in", "rb") as given:
-        child = subprocess.Popen([REGD, "fold"], stdin=given, stdout=subprocess.DEVNULL)
+        child = subprocess.Popen([*under, REGD, "fold"], stdin=given, stdout=subprocess.DEVNULL)
     _, status, used = os.wait4(child.pid, 0)
     child.returncode = status
     if status != 0:
@@ -60,11 +69,11 @@ class Kept:
     """`registrylog keep` on a copy of a log, from the moment on at which each node gives the schema of an id."""
     port = 19900
 
-    def __init__(self, log, nodes, last, workers=4):
+    def __init__(self, log, nodes, last, workers=4, under=()):
         Kept.port += 4
         self.port, self.errors = Kept.port, tempfile.TemporaryFile()
         shutil.copyfile(log, FOLDER + "/kept")
-        words = [KEEP, "keep", "--quiet", "--listen", "127.0.0.1:%d" % self.port, "--nodes", str(nodes), "--workers", str(workers), FOLDER + "/kept"]
+        words = [*under, KEEP, "keep", "--quiet", "--listen", "127.0.0.1:%d" % self.port, "--nodes", str(nodes), "--workers", str(workers), FOLDER + "/kept"]
         begun = time.time()
         self.process = subprocess.Popen(words, stderr=self.errors)
         atexit.register(self.end)
