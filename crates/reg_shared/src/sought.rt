@@ -1,5 +1,5 @@
 // Records among which others are sought.
-ghost use Rattle.std.specs.Prelude.{◌≡◌, IfOk, nat_le};
+ghost use Rattle.std.specs.Prelude.{◌≡◌, IfOk, IfSome, nat_le};
 ghost use Rattle.std.specs.FinSet.{contains, from_list};
 ghost use Rattle.std.specs.List.{filter};
 ghost use Rattle.std.specs.List.Sorted.{IsPermutation};
@@ -8,19 +8,25 @@ ghost use Rattle.reg_shared.specs.Kept.{IsRising};
 
 use crate::kept::{copy_all, is_listed, since};
 use reg_records::Record;
-use reg_set::records_are_ordered;
+use reg_set::{RecordSet, records_are_ordered};
 use std::alloc::{AllocError, Global};
 use std::marker::Model;
 
-/// Records by offset, of which few stand at one. So a record is sought by numbers, and no keys are compared but those
-/// at its offset. Contracts see their set.
+/// So many records at one offset are looked at one by one.
+const FEW: usize = 8;
+
+/// Records by offset. So a record is sought by numbers, and no keys are compared but those at its offset. Contracts
+/// see their set.
 #[derive(Drop)]
 pub(crate) struct Sought {
     by_offset: Vec<Record>,
+    // Their set, where more than a few stand at one offset: so it doesn't matter how many do.
+    many: Option<RecordSet>,
 }
 
 impl Model for Sought {
     ghost use Rattle.std.specs.FinSet as set;
+    ghost use Rattle.std.specs.Prelude.{◌≡◌, IfSome};
     ghost use Rattle.reg_records.specs.contracts.record.Record as stored;
     ghost use Rattle.reg_set.specs.RecordOrder.{record_cmp};
     ghost use Rattle.reg_set.specs.Records.{Records};
@@ -32,7 +38,7 @@ impl Model for Sought {
 
     ghost view = { λ s. set.from_list {R = record_cmp} s.by_offset.items };
 
-    ghost invariant = { λ s. IsRising s.by_offset.items };
+    ghost invariant = { λ s. IsRising s.by_offset.items × IfSome s.many (λ all. all ≡ set.from_list s.by_offset.items) };
 }
 
 impl Sought {
@@ -43,18 +49,57 @@ impl Sought {
         records_are_ordered();
         let mut by_offset = copy_all(alloc, records)?;
         put_by_offset(&mut by_offset);
-        Ok(Sought { by_offset })
+        let many = set_of_many(alloc, &by_offset)?;
+        Ok(Sought { by_offset, many })
     }
 
     /// Whether the record is among them.
     pub(crate) fn contains(&self, given: &Record) -> bool
         ensures { result ≡ contains self.now given.now }
     {
-        records_are_ordered();
-        let above = since(&self.by_offset, given.offset);
-        let there = up_to(above, given.offset);
-        is_listed(there, given)
+        match &self.many {
+            Some(set) => set.contains(given),
+            None => is_at_its_offset(&self.by_offset, given),
+        }
     }
+}
+
+/// The set of the records, where more than a few stand at one offset.
+fn set_of_many(alloc: Global, by_offset: &[Record]) -> Result<Option<RecordSet>, AllocError>
+    ensures { IfOk result (λ found. IfSome found (λ set. set ≡ from_list by_offset.now)) }
+{
+    if are_few_at_each(by_offset) {
+        return Ok(None);
+    }
+    Ok(Some(RecordSet::of(alloc, by_offset)?))
+}
+
+/// Whether no more than a few stand at each offset. Nothing is promised of it.
+fn are_few_at_each(by_offset: &[Record]) -> bool {
+    let mut offset = 0;
+    let mut count: usize = 0;
+    for record in by_offset {
+        if record.offset != offset {
+            offset = record.offset;
+            count = 0;
+        }
+        count = count.saturating_add(1);
+        if count > FEW {
+            return false;
+        }
+    }
+    true
+}
+
+/// Whether the record is among those at its offset.
+fn is_at_its_offset(by_offset: &[Record], given: &Record) -> bool
+    requires { IsRising by_offset.now }
+    ensures { result ≡ contains (from_list {R = record_cmp} by_offset.now) given.now }
+{
+    records_are_ordered();
+    let above = since(by_offset, given.offset);
+    let there = up_to(above, given.offset);
+    is_listed(there, given)
 }
 
 /// Puts the records in order by offset.
