@@ -481,8 +481,8 @@ def stall():
     with open(path, "w") as f:
         for n in range(600000):
             f.write('%d\t{"keytype":"SCHEMA","subject":"s%d","version":1,"magic":1}\t{"subject":"s%d","version":1,"id":%d,"schema":"{\\"type\\":\\"record\\",\\"name\\":\\"R%d\\",\\"fields\\":[]}","deleted":false}\n' % (n, n, n, n + 1, n))
-        # Fewer than half are superseded, so that it is compacted only where it would be too long.
-        f.write(FILLER * 399990 + "\n")
+        # Fewer than half are superseded, so it is compacted only where it would be too long; a start sees to room for 1,000 lines.
+        f.write(FILLER * 398500 + "\n")
     kept = Kept(path, wait=600)
     c, times = kept.connect(), []
     for n in range(2000):
@@ -496,7 +496,7 @@ def stall():
     lines = open(path).read().count("\n") - 1
     if lines > 700000:
         bad("not compacted", lines)
-    print("2,000 commands on one connection: %.2f ms each (median), the longest %.0f ms, in which 999,991 lines were compacted; %d lines in the end; %s" % (
+    print("2,000 commands on one connection: %.2f ms each (median), the longest %.0f ms, in which 1,000,000 lines were compacted; %d lines in the end; %s" % (
         times[1000] * 1000, times[-1] * 1000, lines, said.decode().strip()))
     os.remove(path)
 
