@@ -103,6 +103,11 @@ class Kept:
             parts = it.read().rsplit(")", 1)[1].split()
         return int(parts[11]) / TICK, int(parts[12]) / TICK
 
+    def ran(self):
+        """Seconds of all its threads, in and outside the kernel, in nanoseconds where `used` has ticks."""
+        # The number of the clock of a process, as clock_getcpuclockid(3) makes it.
+        return time.clock_gettime(~self.process.pid << 3 | 2)
+
     def memory(self):
         """What it has now, and what it had at its peak, in bytes."""
         with open("/proc/%d/status" % self.process.pid) as it:

@@ -30,9 +30,9 @@ def in_fold(log, requests):
 def at_node(log, requests):
     kept = Kept(log, 1, 1)
     kept.settle()
-    before = sum(kept.used())
+    before = kept.ran()
     kept.ask_all(requests, 1)
-    used = sum(kept.used()) - before
+    used = kept.ran() - before
     kept.end()
     return used
 
