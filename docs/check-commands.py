@@ -8,6 +8,9 @@ a page run in one shell, in a new folder. Ports 8081 to 8085 stand for five free
 prints is waited for, and a lookup by `curl` is asked again until it is answered so, 20 seconds at most. For `kcat`, which needs a
 cluster, stands a script that prints the one record in KCAT. Ends of lines and line breaks at the end aren't compared. Blocks without `$ `
 prove or build, and aren't run. It ends only what it started.
+
+Behind `./NAME --try` the given program runs, with its standard error held back. Lines that begin with `NAME: ` there are those of --try
+itself, and aren't compared; if one says `listening on http://..`, the next command waits until something listens there.
 """
 import os
 import re
@@ -24,6 +27,7 @@ from pathlib import Path
 TOP = Path(__file__).resolve().parent.parent
 PAGES = ["README.md", "docs/TOUR.md"]
 PATIENCE = 20  # seconds
+TRIED = re.compile(r"\./(\w+) --try ")
 KCAT = r"""1\t{"keytype":"SCHEMA","subject":"s","version":1,"magic":1}\t{"subject":"s","version":1,"id":1,"schema":"\"string\"","deleted":false}
 2\t{"keytype":"CONFIG","subject":"t","magic":0}\tNULL
 """
@@ -54,6 +58,25 @@ def commands_of(text):
                 printed.append(lines[at])
                 at += 1
             yield number + begun, command, "\n".join(printed).rstrip("\n")
+
+
+def without_try(command, wanted):
+    """What is printed by the program itself, and where it listens, as --try says it: an address and a port, or none."""
+    if not (tried := TRIED.match(command)):
+        return wanted, None
+    place = re.search(rf"(?m)^{tried[1]}: listening on http://([\d.]+):(\d+)$", wanted)
+    lines = [line for line in wanted.split("\n") if not line.startswith(f"{tried[1]}: ")]
+    return "\n".join(lines), place and (place[1], int(place[2]))
+
+
+def await_listener(place):
+    """Waits until something listens there, so long as patience lasts."""
+    until = time.monotonic() + PATIENCE
+    while time.monotonic() < until:
+        try:
+            return socket.create_connection(place, 1).close()
+        except OSError:
+            time.sleep(0.02)
 
 
 def free_ports():
@@ -108,7 +131,7 @@ def put_programs(folder, programs, port):
         first = f' && [[ " $* " != *" --listen "* ]] && set -- keep --listen 127.0.0.1:{port} "${{@:2}}"' if name == "registrylog" else ""
         for place in ("bin", "work"):
             script = Path(folder, place, name)
-            script.write_text(f'#!/bin/bash\n[[ ${{1:-}} == keep ]]{first}\nexec "{Path(path).resolve()}" "$@"\n')
+            script.write_text(f'#!/bin/bash\n[[ ${{1:-}} == --try ]] && shift && exec 2>/dev/null\n[[ ${{1:-}} == keep ]]{first}\nexec "{Path(path).resolve()}" "$@"\n')
             script.chmod(0o755)
     by_file = Path(folder, "bin", "by_file.py")
     by_file.write_text(f'#!/bin/bash\nexec python3 "{TOP}/benches/join/by_file.py" "$@"\n')
@@ -129,7 +152,10 @@ def check(page, programs):
     try:
         text = re.sub(r"\b808([1-5])\b", lambda m: str(port + int(m[1]) - 1), (TOP / page).read_text())
         for line, command, wanted in commands_of(text):
+            wanted, place = without_try(command, wanted)
             found, until = shell.run(command, wanted), time.monotonic() + PATIENCE
+            if place:
+                await_listener(place)
             while found != wanted and command.startswith("curl -s http") and time.monotonic() < until:
                 found = shell.run(command, wanted)
             count += 1
