@@ -131,7 +131,8 @@ def put_programs(folder, programs, port):
         first = f' && [[ " $* " != *" --listen "* ]] && set -- keep --listen 127.0.0.1:{port} "${{@:2}}"' if name == "registrylog" else ""
         for place in ("bin", "work"):
             script = Path(folder, place, name)
-            script.write_text(f'#!/bin/bash\n[[ ${{1:-}} == --try ]] && shift && exec 2>/dev/null\n[[ ${{1:-}} == keep ]]{first}\nexec "{Path(path).resolve()}" "$@"\n')
+            script.write_text('#!/bin/bash\n[[ ${1:-} == --try ]] && shift && exec 2>/dev/null\n'
+                              f'[[ ${{1:-}} == keep ]]{first}\nexec "{Path(path).resolve()}" "$@"\n')
             script.chmod(0o755)
     by_file = Path(folder, "bin", "by_file.py")
     by_file.write_text(f'#!/bin/bash\nexec python3 "{TOP}/benches/join/by_file.py" "$@"\n')
