@@ -9,8 +9,8 @@ prints is waited for, and a lookup by `curl` is asked again until it is answered
 cluster, stands a script that prints the one record in KCAT. Ends of lines and line breaks at the end aren't compared. Blocks without `$ `
 prove or build, and aren't run. It ends only what it started.
 
-Behind `./NAME --try` the given program runs, with its standard error held back. Lines that begin with `NAME: ` there are those of --try
-itself, and aren't compared; if one says `listening on http://..`, the next command waits until something listens there.
+Behind `./NAME --try` the given program runs. Lines that begin with `NAME: ` there are those of --try itself, and aren't compared; if one
+says `listening on http://..`, the next command waits until something listens there.
 """
 import os
 import re
@@ -131,7 +131,7 @@ def put_programs(folder, programs, port):
         first = f' && [[ " $* " != *" --listen "* ]] && set -- keep --listen 127.0.0.1:{port} "${{@:2}}"' if name == "registrylog" else ""
         for place in ("bin", "work"):
             script = Path(folder, place, name)
-            script.write_text('#!/bin/bash\n[[ ${1:-} == --try ]] && shift && exec 2>/dev/null\n'
+            script.write_text('#!/bin/bash\n[[ ${1:-} == --try ]] && shift\n'
                               f'[[ ${{1:-}} == keep ]]{first}\nexec "{Path(path).resolve()}" "$@"\n')
             script.chmod(0o755)
     by_file = Path(folder, "bin", "by_file.py")

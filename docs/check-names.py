@@ -26,7 +26,7 @@ CITING = [f"{name}.md" for name in "DEFINITIONS LAYERS CLAIMS HEADLINE READING K
 OTHER = set("""
     Ok Err None Some Option Result Box Write BufRead Serialize RandomState impl match let else use while unsafe ghost requires ensures
     IfOk IfErr IfSome OnOk OnErr Brand Absorb matchit http httparse serde_json clap null stdin stdout library result READONLY_OVERRIDE Old
-    Key::X Value::X crates/NAME crates/NAME/wrong/ must-fail/ wrong/ specs/ proofs/ data/ out/ out/NAME.log exec client_max_body_size
+    Key::X Value::X crates/NAME crates/NAME/wrong/ must-fail/ wrong/ specs/ proofs/ data/ out/ out/NAME.log out/NAME.not-proved exec client_max_body_size
 """.split())
 # A name that public items of several crates share, and why it stays. None does today.
 SHARED = {}
