@@ -13,7 +13,10 @@ In all pages the path of a file that means one file alone has to be a link to it
 Each statement in a text block of HEADLINE has to stand in some specs/, but for `pub`, comments and line breaks. Each link between
 documents has to lead to a file, and to a heading there. `VERSION` of log_arguments is what the file VERSION at the top has.
 No public type, trait or free function has the name of another crate's, but for those of SHARED.
+By the lines of crates.txt at most WAYS ways lead down from each crate: `rt` sums the files of a crate once for each such way, so a crate
+lists no crate that another one of its line passes on.
 """
+import functools
 import os
 import re
 import sys
@@ -30,6 +33,8 @@ OTHER = set("""
 """.split())
 # A name that public items of several crates share, and why it stays. None does today.
 SHARED = {}
+# The most ways that may lead down from a crate, and from all crates together.
+WAYS = {"registrylog": 26_000, "all crates": 120_000}
 FENCE = re.compile(r"(?s)```.*?```")
 NAME = re.compile(r"[A-Za-z_]\w*(?:::\w+)?(?:\(\))?")
 LINKED = re.compile(r"\[(`[^`]+`)\]\(([^)\s]*)\)")
@@ -161,8 +166,22 @@ def anchors(path):
     return [re.sub(r"[^\w\- ]", "", h.strip().lower()).replace(" ", "-") for h in headings]
 
 
+def too_many_ways():
+    """Each part of crates.txt with more ways than WAYS has for it."""
+    lines = (line.partition("#")[0].partition(":") for line in (TOP / "crates.txt").read_text().splitlines())
+    listed = {head.split()[0]: rest.split() for head, colon, rest in lines if colon}
+
+    @functools.cache
+    def ways(crate):
+        return 1 + sum(ways(it) for it in listed[crate] if it in listed)
+
+    found = {name: ways(name) if name in listed else sum(map(ways, listed)) for name in WAYS}
+    return [f"crates.txt: {count} ways lead down from {name}, and {WAYS[name]} are the most" for name, count in found.items()
+            if count > WAYS[name]]
+
+
 def main():
-    specs, count, faults = "", 0, []
+    specs, count, faults = "", 0, too_many_ways()
     for file in FILES:
         text = (TOP / "crates" / file).read_text()
         if file.endswith(".antt"):

@@ -1,8 +1,8 @@
 -- Worked readings.
 use Rattle.std.proofs.Common.{◌≡◌, ℕ, List, [], Some, None, option_map, unwrap_or, codes, refl}
 use Rattle.serde_json.proofs.OnLiterals.{serde_json_on_literals}
-use Rattle.avro_schema.specs.declared.node.Node.{Node}
-use Rattle.avro_schema.specs.Schema.{schema_of}
+use Rattle.avro_resolve.specs.avro_schema.declared.node.Node.{Node}
+use Rattle.avro_resolve.specs.avro_schema.Schema.{schema_of}
 use Rattle.avro_resolve.specs.Trails.{roots}
 use Rattle.avro_data.specs.Value.{leaf, symbol, list_of, branch, fields_of, by_default, no_values, no_members, member}
 use Rattle.avro_readings.specs.Reads.{reads}

@@ -5,8 +5,8 @@ use Rattle.std.specs.List.{position_from}
 use Rattle.std.proofs.lemmas.Iterator.Adapters.{position_from-zero}
 use Rattle.std.proofs.lemmas.List.Quantifiers.{position-Some}
 use Rattle.std.proofs.lemmas.Option.{none-some}
-use Rattle.avro_schema.specs.declared.node.Field.{Field}
-use Rattle.avro_schema.specs.declared.node.Node.{Node}
+use Rattle.avro_resolve.specs.avro_schema.declared.node.Field.{Field}
+use Rattle.avro_resolve.specs.avro_schema.declared.node.Node.{Node}
 use Rattle.avro_resolve.specs.declared.obligations.Pair.{Pair}
 use Rattle.avro_data.specs.View.{view, members_view}
 use Rattle.avro_readings.proofs.Along.{Entry}

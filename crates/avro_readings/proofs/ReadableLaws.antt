@@ -15,11 +15,11 @@ use Rattle.std.proofs.lemmas.List.Kept.{Contains-dedup_nat}
 use Rattle.std.proofs.lemmas.List.Sorted.{All-permutation, Contains-permutation}
 use Rattle.std.proofs.lemmas.Slice.Eq.{bytes_eq-Decides}
 use Rattle.std.specs.Option.{option_map_or}
-use Rattle.avro_schema.specs.declared.node.NodeId.{NodeId}
-use Rattle.avro_schema.specs.declared.node.Field.{Field}
-use Rattle.avro_schema.specs.declared.node.Node.{Node}
-use Rattle.avro_schema.specs.declared.node.Node.TheVariants as kind
-use Rattle.avro_schema.specs.Defaults.{field_named}
+use Rattle.avro_resolve.specs.avro_schema.declared.node.NodeId.{NodeId}
+use Rattle.avro_resolve.specs.avro_schema.declared.node.Field.{Field}
+use Rattle.avro_resolve.specs.avro_schema.declared.node.Node.{Node}
+use Rattle.avro_resolve.specs.avro_schema.declared.node.Node.TheVariants as kind
+use Rattle.avro_resolve.specs.avro_schema.Defaults.{field_named}
 use Rattle.avro_resolve.specs.declared.obligations.Pair.{Pair}
 use Rattle.avro_resolve.specs.Match.{matches}
 use Rattle.avro_resolve.specs.Pairing.{partner}

@@ -5,13 +5,13 @@ use Rattle.std.specs.List.{enumerate_from, cons_option}
 use Rattle.std.specs.Result.{result_err, result_unwrap_or}
 use Rattle.std.proofs.lemmas.Slice.Eq.{bytes_eq-Decides}
 use Rattle.std.proofs.lemmas.Option.{slice_get_within, get_or_from_slice_get}
-use Rattle.avro_schema.specs.declared.node.NodeId.{NodeId}
-use Rattle.avro_schema.specs.declared.node.FullName.{FullName}
-use Rattle.avro_schema.specs.declared.node.Field.{Field}
-use Rattle.avro_schema.specs.declared.node.Node.{Node}
-use Rattle.avro_schema.specs.declared.node.Node.TheVariants as kind
-use Rattle.avro_schema.specs.Defaults.{field_named}
-use Rattle.avro_schema.specs.Sound.{IsSound}
+use Rattle.avro_resolve.specs.avro_schema.declared.node.NodeId.{NodeId}
+use Rattle.avro_resolve.specs.avro_schema.declared.node.FullName.{FullName}
+use Rattle.avro_resolve.specs.avro_schema.declared.node.Field.{Field}
+use Rattle.avro_resolve.specs.avro_schema.declared.node.Node.{Node}
+use Rattle.avro_resolve.specs.avro_schema.declared.node.Node.TheVariants as kind
+use Rattle.avro_resolve.specs.avro_schema.Defaults.{field_named}
+use Rattle.avro_resolve.specs.avro_schema.Sound.{IsSound}
 use Rattle.avro_resolve.specs.declared.trail.Hop.TheVariants as hop
 use Rattle.avro_resolve.specs.declared.trail.ClashKind.{ClashKind}
 use Rattle.avro_resolve.specs.declared.trail.ClashKind.TheVariants as clash

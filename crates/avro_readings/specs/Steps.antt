@@ -1,10 +1,10 @@
 -- Private: the steps in which a value is read.
 use Rattle.std.specs.Prelude.{ℕ, List, [], ◌∷◌, Bool, true, false, if◌then◌else◌, Option, Some, None, option_and_then, slice_get}
-use Rattle.avro_schema.specs.declared.node.NodeId.{NodeId}
-use Rattle.avro_schema.specs.declared.node.Field.{Field}
-use Rattle.avro_schema.specs.declared.node.Node.{Node}
-use Rattle.avro_schema.specs.declared.node.Node.TheVariants as kind
-use Rattle.avro_schema.specs.Names.{has_text}
+use Rattle.avro_resolve.specs.avro_schema.declared.node.NodeId.{NodeId}
+use Rattle.avro_resolve.specs.avro_schema.declared.node.Field.{Field}
+use Rattle.avro_resolve.specs.avro_schema.declared.node.Node.{Node}
+use Rattle.avro_resolve.specs.avro_schema.declared.node.Node.TheVariants as kind
+use Rattle.avro_resolve.specs.avro_schema.Names.{has_text}
 use Rattle.avro_resolve.specs.declared.obligations.Pair.{Pair}
 use Rattle.avro_resolve.specs.Pairing.{partner}
 use Rattle.avro_data.specs.Value.{Value, leaf, symbol, list_of, map_of, branch, fields_of, by_default, Values, value, Members, member}

@@ -1,7 +1,7 @@
 -- When a value isn't read, and what a yes is worth.
 use Rattle.std.specs.Prelude.{◌≡◌, List, true, false, Some, None, IsSome}
-use Rattle.avro_schema.specs.declared.node.Node.{Node}
-use Rattle.avro_schema.specs.Sound.{IsSound}
+use Rattle.avro_resolve.specs.avro_schema.declared.node.Node.{Node}
+use Rattle.avro_resolve.specs.avro_schema.Sound.{IsSound}
 use Rattle.avro_resolve.specs.Trails.{roots, AreCompatible}
 use Rattle.avro_data.specs.Value.{Value}
 use Rattle.avro_data.specs.Fits.{fits}

@@ -6,9 +6,9 @@ ghost use Rattle.avro_readings.specs.Readable as spec;
 
 use crate::pairs::{fields_at, row_type};
 use avro_data::node_at;
+use avro_resolve::avro_schema::{Field, NodeId, Schema};
+use avro_resolve::named_list::NamedList;
 use avro_resolve::{Pair, partner};
-use avro_schema::{Field, NodeId, Schema};
-use named_list::NamedList;
 use std::alloc::{AllocError, Global};
 
 /// For each of the writer's fields the reader's types that read it, where these types of the

@@ -1,11 +1,11 @@
 // The members of a record, by the names of its fields. Nothing here takes memory.
 ghost use Rattle.std.specs.Prelude.{◌≡◌, ◌<◌, true, map, length, position, bytes_eq, IsTrue, IfSome};
-ghost use Rattle.avro_schema.specs.declared.node.Field.{Field};
+ghost use Rattle.avro_resolve.specs.avro_schema.declared.node.Field.{Field};
 
 use avro_data::Data;
-use avro_schema::Field;
-use base_text::Text;
-use named_list::NamedList;
+use avro_resolve::avro_schema::Field;
+use avro_resolve::base_text::Text;
+use avro_resolve::named_list::NamedList;
 
 /// Whether members have the names of these fields, in their order.
 pub fn are_named(fields: &[Field], members: &[(Text, Data)]) -> bool

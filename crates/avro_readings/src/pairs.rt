@@ -2,8 +2,8 @@
 ghost use Rattle.std.specs.Prelude.{◌≡◌, ◌<◌, length, slice_get, option_map, option_copied, find, Some, if◌then◌else◌};
 ghost use Rattle.std.specs.List.{enumerate_from};
 ghost use Rattle.std.specs.Result.{result_err};
-ghost use Rattle.avro_schema.specs.declared.node.Node.TheVariants as kind;
-ghost use Rattle.avro_schema.specs.Names.{has_text};
+ghost use Rattle.avro_resolve.specs.avro_schema.declared.node.Node.TheVariants as kind;
+ghost use Rattle.avro_resolve.specs.avro_schema.Names.{has_text};
 ghost use Rattle.avro_resolve.specs.Match as matching;
 ghost use Rattle.avro_resolve.specs.Row.{outcome_of};
 ghost use Rattle.avro_resolve.specs.Table.{clash_of};
@@ -12,10 +12,10 @@ ghost use Rattle.avro_readings.specs.Readable as readable;
 ghost use Rattle.avro_readings.specs.Steps as steps;
 
 use avro_data::node_at;
+use avro_resolve::avro_schema::{Field, Node, NodeId, Schema};
+use avro_resolve::base_text::Text;
+use avro_resolve::named_list::NamedList;
 use avro_resolve::{Cause, Pair, Row, first_lacking, matches, row_at};
-use avro_schema::{Field, Node, NodeId, Schema};
-use base_text::Text;
-use named_list::NamedList;
 
 /// Whether no value can be read at this pair.
 pub fn is_barred(r: &Schema, w: &Schema, pair: Pair) -> bool

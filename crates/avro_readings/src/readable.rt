@@ -2,7 +2,7 @@
 // the value is looked at once, for all the reader's types together that read it.
 ghost use Rattle.std.specs.Prelude.{◌≡◌, ℕ, Bool, true, [], Some, slice_get, option_map, unwrap_or, is_some, IfOk};
 ghost use Rattle.std.specs.List.{list_any};
-ghost use Rattle.avro_schema.specs.declared.node.Node.TheVariants as kind;
+ghost use Rattle.avro_resolve.specs.avro_schema.declared.node.Node.TheVariants as kind;
 ghost use Rattle.avro_resolve.specs.Table.{clash_of};
 ghost use Rattle.avro_resolve.specs.Trails.{roots};
 ghost use Rattle.avro_data.specs.Fits.{fits, items_fit, values_fit, fields_fit};
@@ -17,9 +17,9 @@ use crate::pairs::{
 };
 use avro_data::{Data, node_at};
 use avro_resolve::Pair;
-use avro_schema::{Field, Node, NodeId, Schema};
-use base_text::Text;
-use named_list::NamedList;
+use avro_resolve::avro_schema::{Field, Node, NodeId, Schema};
+use avro_resolve::base_text::Text;
+use avro_resolve::named_list::NamedList;
 use std::alloc::{AllocError, Global};
 use std::collections::BTreeMap;
 

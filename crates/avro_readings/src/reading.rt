@@ -1,7 +1,7 @@
 // What a reader makes of a writer's value.
 ghost use Rattle.std.specs.Prelude.{◌≡◌, ◌≢◌, IfOk, IfErr, Err, List, Some, true, map, option_map, slice_get};
-ghost use Rattle.avro_schema.specs.declared.node.Field.{Field as SpecField};
-ghost use Rattle.avro_schema.specs.declared.node.Node.TheVariants as kind;
+ghost use Rattle.avro_resolve.specs.avro_schema.declared.node.Field.{Field as SpecField};
+ghost use Rattle.avro_resolve.specs.avro_schema.declared.node.Node.TheVariants as kind;
 ghost use Rattle.avro_resolve.specs.Pairing.{partner};
 ghost use Rattle.avro_resolve.specs.Trails.{roots, AreCompatible};
 ghost use Rattle.avro_data.specs.Fits.{fits};
@@ -20,10 +20,10 @@ use crate::pairs::{
 use crate::readable::can_read;
 use crate::room::{Halt, Room};
 use avro_data::{Data, node_at};
+use avro_resolve::avro_schema::{Field, Node, NodeId, Schema};
+use avro_resolve::base_text::Text;
+use avro_resolve::named_list::NamedList;
 use avro_resolve::{Pair, partner};
-use avro_schema::{Field, Node, NodeId, Schema};
-use base_text::Text;
-use named_list::NamedList;
 use std::alloc::Global;
 use std::collections::BTreeMap;
 

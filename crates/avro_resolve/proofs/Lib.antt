@@ -15,3 +15,4 @@ pub mod BreadthFirst
 pub mod AnyClash
 pub mod Verdicts
 pub mod Examples
+pub use Rattle.avro_schema.proofs as avro_schema_proofs

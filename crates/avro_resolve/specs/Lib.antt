@@ -16,3 +16,4 @@ pub mod Owed
 pub mod Worklist
 pub mod Numbered
 pub mod AnyClash
+pub use Rattle.avro_schema.specs as avro_schema

@@ -23,9 +23,12 @@ mod trail;
 mod unions;
 mod worklist;
 
+pub use avro_schema;
+pub use base_text;
 pub use fields::{first_lacking, partner};
 pub use laws::{obligations_are_compatible, schemas_have_one_verdict};
 pub use matching::matches;
+pub use named_list;
 pub use obligations::Pair;
 pub use resolving::{Counted, Verdict, resolve, resolve_counted};
 pub use table::{Cause, Part, Row, row_at};

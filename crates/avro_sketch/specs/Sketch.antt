@@ -1,6 +1,6 @@
 -- The lines of a sketch of a reader's nodes and a writer's.
 use Rattle.std.specs.Prelude.{◌≡◌, ℕ, List, ◌++◌, Option, Some, None, codes, if◌then◌else◌}
-use Rattle.avro_schema.specs.declared.node.Node.{Node}
+use Rattle.avro_resolve.specs.avro_schema.declared.node.Node.{Node}
 use Rattle.avro_resolve.specs.declared.resolving.Verdict.{Verdict}
 use Rattle.avro_resolve.specs.declared.resolving.Verdict.TheVariants.{Compatible, Clash}
 use Rattle.avro_resolve.specs.Texts.{trail_text, clash_text}

@@ -1,7 +1,7 @@
 // The law of sketches. What is proved here costs nothing at run time: a function that needs it calls
 // it.
 ghost use Rattle.std.specs.Prelude.{List};
-ghost use Rattle.avro_schema.specs.declared.node.Node.{Node};
+ghost use Rattle.avro_resolve.specs.avro_schema.declared.node.Node.{Node};
 ghost use Rattle.avro_sketch.specs.Sketch.{HaveOneSketch};
 
 use avro_data::samples_are_single;

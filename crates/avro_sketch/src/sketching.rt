@@ -14,9 +14,9 @@ ghost use Rattle.avro_sketch.specs.Sketch.{HaveOneSketch, IsSketch, reading_line
 use crate::laws::schemas_have_one_sketch;
 use avro_data::{Data, PiecedText, SampleError, sample};
 use avro_readings::{ReadError, read_data};
+use avro_resolve::avro_schema::Schema;
+use avro_resolve::base_text::Text;
 use avro_resolve::{Trail, Verdict, resolve};
-use avro_schema::Schema;
-use base_text::Text;
 use std::alloc::{AllocError, Global};
 
 /// The sketch of a reader's schema `r` and a writer's `w`, in lines that end in LF.

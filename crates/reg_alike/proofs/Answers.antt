@@ -1,12 +1,12 @@
 -- Where two sets of last records give the same, what a query's answer rests on is the same.
 use Rattle.std.proofs.Common.{◌≡◌, Bool, true, false, Some, None, Ok, subst, sym}
 use Rattle.std.specs.Option.{ok_or}
-use Rattle.reg_entries.specs.Sought as sought
-use Rattle.reg_level_names.specs.Level.{level_text}
-use Rattle.reg_modes.specs.Mode.{mode_text}
-use Rattle.reg_refusals.specs.declared.refusal.Refusal.TheVariants.{SchemaNotFound, SubjectHasNoLevel, SubjectHasNoMode}
-use Rattle.reg_set.specs.Records.{Records}
-use Rattle.reg_fold.specs.InForce.{Scope}
+use Rattle.reg_leader.specs.reg_entries.Sought as sought
+use Rattle.reg_leader.specs.reg_level_names.Level.{level_text}
+use Rattle.reg_leader.specs.reg_modes.Mode.{mode_text}
+use Rattle.reg_leader.specs.reg_refusals.declared.refusal.Refusal.TheVariants.{SchemaNotFound, SubjectHasNoLevel, SubjectHasNoMode}
+use Rattle.reg_leader.specs.reg_set.Records.{Records}
+use Rattle.reg_leader.specs.reg_fold.InForce.{Scope}
 use Rattle.reg_lookup.specs.Answers.{IsAnswer}
 use Rattle.reg_lookup.specs.Bodies.{answer_with, level_body, mode_body, schema_body}
 use Rattle.reg_lookup.specs.ById.{id_versions}
@@ -19,7 +19,7 @@ use Rattle.reg_lookup.specs.declared.answered.Answer.{Answer}
 use Rattle.reg_lookup.specs.declared.query.Query.{Query}
 use Rattle.reg_lookup.specs.declared.query.Query.TheVariants as queries
 use Rattle.reg_alike.specs.AnswerAlike.{AlikeAnswersAlike}
-use Rattle.reg_fold.specs.GiveAlike.{GiveAlike}
+use Rattle.reg_leader.specs.reg_fold.GiveAlike.{GiveAlike}
 use Rattle.reg_alike.proofs.InForce.{same_level, same_mode, same_own_mode}
 
 module _ (rs ss : Records) (alike : GiveAlike rs ss) where

@@ -2,13 +2,13 @@
 use Rattle.std.proofs.Common.{◌≡◌, None, unwrap_or}
 use Rattle.std.specs.Prelude.{option_map}
 use Rattle.std.specs.Option.{option_or}
-use Rattle.reg_level_names.specs.declared.level.Level.TheVariants.{Backward}
-use Rattle.reg_set.specs.Records.{Records}
-use Rattle.reg_fold.specs.InForce.{Scope, level}
-use Rattle.reg_modes.specs.InForce.{mode, own_mode}
-use Rattle.reg_modes.specs.Mode.{standing_mode}
-use Rattle.reg_modes.specs.declared.mode.Mode.TheVariants.{Readwrite}
-use Rattle.reg_fold.specs.GiveAlike.{GiveAlike}
+use Rattle.reg_leader.specs.reg_level_names.declared.level.Level.TheVariants.{Backward}
+use Rattle.reg_leader.specs.reg_set.Records.{Records}
+use Rattle.reg_leader.specs.reg_fold.InForce.{Scope, level}
+use Rattle.reg_leader.specs.reg_modes.InForce.{mode, own_mode}
+use Rattle.reg_leader.specs.reg_modes.Mode.{standing_mode}
+use Rattle.reg_leader.specs.reg_modes.declared.mode.Mode.TheVariants.{Readwrite}
+use Rattle.reg_leader.specs.reg_fold.GiveAlike.{GiveAlike}
 
 module _ (rs ss : Records) (alike : GiveAlike rs ss) where
   open alike use {levels_alike, modes_alike}

@@ -5,21 +5,21 @@ use Rattle.std.specs.Prelude.{fold, min}
 use Rattle.std.specs.FinMap as finmap
 use Rattle.std.specs.List.{cons_option, filter, filter_map, reduce}
 use Rattle.std.specs.Option.{option_map_or}
-use Rattle.reg_records.specs.declared.key.Key.{Key}
-use Rattle.reg_records.specs.declared.key.Key.TheVariants as keys
-use Rattle.reg_records.specs.declared.record.Record.{Record}
-use Rattle.reg_records.specs.declared.value.Value.{Value}
-use Rattle.reg_records.specs.declared.value.Value.TheVariants as values
-use Rattle.reg_values.specs.Value.{value_of, value_of_text}
-use Rattle.reg_set.specs.LastRecords.{last, last_records}
-use Rattle.reg_set.specs.Records.{Records, records_of}
+use Rattle.reg_leader.specs.reg_records.declared.key.Key.{Key}
+use Rattle.reg_leader.specs.reg_records.declared.key.Key.TheVariants as keys
+use Rattle.reg_leader.specs.reg_records.declared.record.Record.{Record}
+use Rattle.reg_leader.specs.reg_records.declared.value.Value.{Value}
+use Rattle.reg_leader.specs.reg_records.declared.value.Value.TheVariants as values
+use Rattle.reg_leader.specs.reg_values.Value.{value_of, value_of_text}
+use Rattle.reg_leader.specs.reg_set.LastRecords.{last, last_records}
+use Rattle.reg_leader.specs.reg_set.Records.{Records, records_of}
 use Rattle.reg_floored.specs.Compaction.{standing}
-use Rattle.reg_entries.specs.EntryOrder.{place_cmp, place_of}
-use Rattle.reg_fold.specs.Entries.{entries, entry_in, entry_map, entry_of, normal_of}
-use Rattle.reg_fold.specs.IdMark.{id_mark, id_marked_in, id_marked_of}
-use Rattle.reg_fold.specs.InForce.{Scope, level_in, level_of, mode_name_in, mode_name_of, own_level, own_mode_name}
-use Rattle.reg_fold.specs.Covers.{covers, is_soft_deleted}
-use Rattle.reg_fold.specs.Opaque.{is_opaque, is_version, opaque}
+use Rattle.reg_leader.specs.reg_entries.EntryOrder.{place_cmp, place_of}
+use Rattle.reg_leader.specs.reg_fold.Entries.{entries, entry_in, entry_map, entry_of, normal_of}
+use Rattle.reg_leader.specs.reg_fold.IdMark.{id_mark, id_marked_in, id_marked_of}
+use Rattle.reg_leader.specs.reg_fold.InForce.{Scope, level_in, level_of, mode_name_in, mode_name_of, own_level, own_mode_name}
+use Rattle.reg_leader.specs.reg_fold.Covers.{covers, is_soft_deleted}
+use Rattle.reg_leader.specs.reg_fold.Opaque.{is_opaque, is_version, opaque}
 use Rattle.reg_alike.specs.GiveAlike.{NullsGiveNothing}
 use Rattle.reg_alike.proofs.Retained.{records_of-retain}
 use Rattle.reg_alike.proofs.Standing.{AreOrdered, given_by_standing}

@@ -8,9 +8,9 @@ use Rattle.std.specs.List.{filter, list_all, list_any}
 use Rattle.std.specs.Ordering.{eq_by_cmp, is_eq, is_lt, match_ordering, ordering_reverse}
 use Rattle.std.specs.declared.cmp.Ordering.{Ordering}
 use Rattle.std.specs.declared.cmp.Ordering.TheVariants.{Less, Equal, Greater}
-use Rattle.reg_records.specs.declared.record.Record.{Record}
-use Rattle.reg_set.specs.RecordOrder.{record_cmp}
-use Rattle.reg_set.specs.Records.{Records, in_order, is_in_order, placed, records_of}
+use Rattle.reg_leader.specs.reg_records.declared.record.Record.{Record}
+use Rattle.reg_leader.specs.reg_set.RecordOrder.{record_cmp}
+use Rattle.reg_leader.specs.reg_set.Records.{Records, in_order, is_in_order, placed, records_of}
 
 abbrev is_among : Record → List Record → Bool
 is_among q rs = list_any (eq_by_cmp record_cmp q) rs

@@ -5,12 +5,12 @@ use Rattle.std.specs.Cmp.{IsTotalOrder}
 use Rattle.std.specs.FinSet.{IsAntisymmetric, contains}
 use Rattle.std.specs.Option.{option_map_or}
 use Rattle.std.specs.Ordering.{eq_by_cmp}
-use Rattle.reg_records.specs.declared.key.Key.{Key}
-use Rattle.reg_records.specs.declared.record.Record.{Record}
-use Rattle.reg_set.specs.Join.{LastIsGreatest, LastOfLastRecords}
-use Rattle.reg_set.specs.LastRecords.{is_last, last, last_records}
-use Rattle.reg_set.specs.RecordOrder.{record_cmp}
-use Rattle.reg_set.specs.Records.{Records}
+use Rattle.reg_leader.specs.reg_records.declared.key.Key.{Key}
+use Rattle.reg_leader.specs.reg_records.declared.record.Record.{Record}
+use Rattle.reg_leader.specs.reg_set.Join.{LastIsGreatest, LastOfLastRecords}
+use Rattle.reg_leader.specs.reg_set.LastRecords.{is_last, last, last_records}
+use Rattle.reg_leader.specs.reg_set.RecordOrder.{record_cmp}
+use Rattle.reg_leader.specs.reg_set.Records.{Records}
 use Rattle.reg_floored.specs.Compaction.{standing}
 use Rattle.reg_alike.proofs.Retained.{both, equal, first_true, in_retain, second_true}
 

@@ -4,32 +4,32 @@ use Rattle.std.proofs.Common.{not, nat_lt, Option, Some, None, is_some, unwrap_o
 use Rattle.std.specs.Prelude.{if◌then◌else◌}
 use Rattle.std.specs.List.{filter}
 use Rattle.std.specs.Option.{option_map_or}
-use Rattle.reg_entries.specs.Sought as sought
-use Rattle.reg_entries.specs.declared.entry.Entry.{Entry}
-use Rattle.reg_fold.specs.IdMark.{last_id}
-use Rattle.reg_fold.specs.InForce.{Scope}
-use Rattle.reg_fold.specs.Standing.{version_in}
-use Rattle.reg_fold.specs.declared.version_ref.VersionRef.{VersionRef}
-use Rattle.reg_fold.specs.declared.version_ref.VersionRef.TheVariants.{Latest, Number}
-use Rattle.reg_modes.specs.Permitted.{denied, granted, may_register, may_write}
-use Rattle.reg_modes.specs.declared.mode.Mode.{Mode}
-use Rattle.reg_modes.specs.declared.mode.Mode.TheVariants as modes
-use Rattle.reg_refusals.specs.declared.reason.Reason.TheVariants as reasons
-use Rattle.reg_refusals.specs.declared.reason.StoreFault.TheVariants as faults
-use Rattle.reg_refusals.specs.declared.refusal.Refusal.TheVariants as refusals
-use Rattle.reg_set.specs.Records.{Records}
-use Rattle.reg_rules.specs.Standing.{id_for, is_of, next_version, version_meant}
-use Rattle.reg_entries.specs.Sought.{has_schema, newest, texts_of}
-use Rattle.reg_rules.specs.Tests as test
-use Rattle.reg_rules.specs.Tests.{refuse_if, refuse_unless}
-use Rattle.reg_rules.specs.Writings.{deleted_up_to, id_marked, level_cleared, level_set, mode_cleared, mode_set, no_operation, removed}
+use Rattle.reg_leader.specs.reg_entries.Sought as sought
+use Rattle.reg_leader.specs.reg_entries.declared.entry.Entry.{Entry}
+use Rattle.reg_leader.specs.reg_fold.IdMark.{last_id}
+use Rattle.reg_leader.specs.reg_fold.InForce.{Scope}
+use Rattle.reg_leader.specs.reg_fold.Standing.{version_in}
+use Rattle.reg_leader.specs.reg_fold.declared.version_ref.VersionRef.{VersionRef}
+use Rattle.reg_leader.specs.reg_fold.declared.version_ref.VersionRef.TheVariants.{Latest, Number}
+use Rattle.reg_leader.specs.reg_modes.Permitted.{denied, granted, may_register, may_write}
+use Rattle.reg_leader.specs.reg_modes.declared.mode.Mode.{Mode}
+use Rattle.reg_leader.specs.reg_modes.declared.mode.Mode.TheVariants as modes
+use Rattle.reg_leader.specs.reg_refusals.declared.reason.Reason.TheVariants as reasons
+use Rattle.reg_leader.specs.reg_refusals.declared.reason.StoreFault.TheVariants as faults
+use Rattle.reg_leader.specs.reg_refusals.declared.refusal.Refusal.TheVariants as refusals
+use Rattle.reg_leader.specs.reg_set.Records.{Records}
+use Rattle.reg_leader.specs.reg_rules.Standing.{id_for, is_of, next_version, version_meant}
+use Rattle.reg_leader.specs.reg_entries.Sought.{has_schema, newest, texts_of}
+use Rattle.reg_leader.specs.reg_rules.Tests as test
+use Rattle.reg_leader.specs.reg_rules.Tests.{refuse_if, refuse_unless}
+use Rattle.reg_leader.specs.reg_rules.Writings.{deleted_up_to, id_marked, level_cleared, level_set, mode_cleared, mode_set, no_operation, removed}
 use Rattle.reg_leader.specs.Course.{Refused, Does, IfMet, IsOutcome, ◌▸◌, where_found}
 use Rattle.reg_leader.specs.Step.{IsStep, course_of, delete_all, delete_entry, import_as}
 use Rattle.reg_leader.specs.Step.{is_there, mark_over, marked, no_version, where_read, writes}
 use Rattle.reg_leader.specs.declared.command.Command.{Command}
 use Rattle.reg_leader.specs.declared.command.Command.TheVariants as commands
 use Rattle.reg_leader.specs.declared.reply.Reply.TheVariants as replies
-use Rattle.reg_fold.specs.GiveAlike.{GiveAlike}
+use Rattle.reg_leader.specs.reg_fold.GiveAlike.{GiveAlike}
 use Rattle.reg_alike.specs.StepAlike.{StepsAlike}
 use Rattle.reg_alike.proofs.InForce.{same_level, same_mode, same_own_mode}
 

@@ -1,12 +1,12 @@
 -- Sets of last records that give the same answer alike.
 use Rattle.std.specs.Prelude.{◌↔◌}
-use Rattle.reg_set.specs.Records.{Records}
+use Rattle.reg_leader.specs.reg_set.Records.{Records}
 use Rattle.reg_floored.specs.Compaction.{IsCompactionOf}
 use Rattle.reg_floored.specs.Floored.{Floored}
 use Rattle.reg_lookup.specs.Answers.{IsAnswer, IsAnswerOver}
 use Rattle.reg_lookup.specs.declared.answered.Answer.{Answer}
 use Rattle.reg_lookup.specs.declared.query.Query.{Query}
-use Rattle.reg_fold.specs.GiveAlike.{GiveAlike}
+use Rattle.reg_leader.specs.reg_fold.GiveAlike.{GiveAlike}
 
 -- each query has the same answers over both
 abbrev pub AlikeAnswersAlike : Type 0

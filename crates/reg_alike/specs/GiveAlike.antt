@@ -1,10 +1,10 @@
 -- Which sets of last records give the same.
 use Rattle.std.specs.Prelude.{◌≡◌}
-use Rattle.reg_set.specs.LastRecords.{last_records}
-use Rattle.reg_set.specs.Records.{Records}
+use Rattle.reg_leader.specs.reg_set.LastRecords.{last_records}
+use Rattle.reg_leader.specs.reg_set.Records.{Records}
 use Rattle.reg_floored.specs.Compaction.{IsCompactionOf, standing}
 use Rattle.reg_floored.specs.Floored.{Floored}
-use Rattle.reg_fold.specs.GiveAlike.{GiveAlike}
+use Rattle.reg_leader.specs.reg_fold.GiveAlike.{GiveAlike}
 
 -- last records without a value give nothing
 abbrev pub NullsGiveNothing : Type 0

@@ -1,14 +1,14 @@
 -- Sets of last records that give the same take commands alike.
 use Rattle.std.specs.Prelude.{◌↔◌, ℕ, List}
-use Rattle.reg_records.specs.declared.record.Record.{Record}
-use Rattle.reg_set.specs.LastRecords.{last_records}
-use Rattle.reg_set.specs.Records.{Records}
+use Rattle.reg_leader.specs.reg_records.declared.record.Record.{Record}
+use Rattle.reg_leader.specs.reg_set.LastRecords.{last_records}
+use Rattle.reg_leader.specs.reg_set.Records.{Records}
 use Rattle.reg_floored.specs.Compaction.{IsCompactionOf}
 use Rattle.reg_floored.specs.Floored.{Floored}
 use Rattle.reg_leader.specs.Step.{IsStep}
 use Rattle.reg_leader.specs.declared.command.Command.{Command}
 use Rattle.reg_leader.specs.declared.reply.Reply.{Reply}
-use Rattle.reg_fold.specs.GiveAlike.{GiveAlike}
+use Rattle.reg_leader.specs.reg_fold.GiveAlike.{GiveAlike}
 
 -- each command has the same reply and the same batch over both, at each next offset
 abbrev pub StepsAlike : Type 0

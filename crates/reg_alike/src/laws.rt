@@ -5,8 +5,8 @@ ghost use Rattle.reg_alike.specs.GiveAlike.{CompactionsGiveAlike, NullsGiveNothi
 ghost use Rattle.reg_alike.specs.StepAlike.{CompactionsStepAlike, StepsAlike};
 
 use reg_floored::compactions_keep_what_stands;
-use reg_fold::giving_alike_is_an_equivalence;
-use reg_set::{last_is_greatest, last_records_are_enough, records_are_ordered};
+use reg_leader::reg_fold::giving_alike_is_an_equivalence;
+use reg_leader::reg_set::{last_is_greatest, last_records_are_enough, records_are_ordered};
 
 /// Last records without a value give nothing: those that have one give the same alone.
 pub fn nulls_give_nothing()

@@ -7,10 +7,10 @@ use Rattle.std.specs.List.{count_by, filter}
 use Rattle.std.specs.Option.{option_map_or}
 use Rattle.reg_journal.specs.Lines.{Say, SayLog, SaysFloor, text_of}
 use Rattle.reg_compaction.specs.Fronts.{Front, HasLines}
-use Rattle.reg_records.specs.Line.{reading}
-use Rattle.reg_records.specs.Log.{is_foreign, records_in}
-use Rattle.reg_records.specs.declared.record.Read.{Read}
-use Rattle.reg_records.specs.declared.record.Read.TheVariants as reads
+use Rattle.reg_fold.specs.reg_records.Line.{reading}
+use Rattle.reg_fold.specs.reg_records.Log.{is_foreign, records_in}
+use Rattle.reg_fold.specs.reg_records.declared.record.Read.{Read}
+use Rattle.reg_fold.specs.reg_records.declared.record.Read.TheVariants as reads
 use Rattle.reg_base.specs.Base.{is_below, lines_below, reads_below}
 
 -- each line is a record's or foreign

@@ -2,13 +2,13 @@
 use Rattle.std.specs.Prelude.{◌≡◌, ℕ, suc, List, [], ◌∷◌, Bool, true, false, ◌&&◌, ◌||◌, is_none, nat_eq, nat_lt, Ok, if◌then◌else◌}
 use Rattle.std.specs.FinSet.{from_list}
 use Rattle.std.specs.List.{filter, list_any}
-use Rattle.reg_records.specs.Log.{LogText, log_of, next_of, offset_in, records_in}
-use Rattle.reg_records.specs.declared.key.Key.{Key}
-use Rattle.reg_records.specs.declared.key.Key.TheVariants as keys
-use Rattle.reg_records.specs.declared.record.Read.{Read}
-use Rattle.reg_records.specs.declared.record.Record.{Record}
-use Rattle.reg_set.specs.LastRecords.{last_records}
-use Rattle.reg_set.specs.Records.{Records}
+use Rattle.reg_fold.specs.reg_records.Log.{LogText, log_of, next_of, offset_in, records_in}
+use Rattle.reg_fold.specs.reg_records.declared.key.Key.{Key}
+use Rattle.reg_fold.specs.reg_records.declared.key.Key.TheVariants as keys
+use Rattle.reg_fold.specs.reg_records.declared.record.Read.{Read}
+use Rattle.reg_fold.specs.reg_records.declared.record.Record.{Record}
+use Rattle.reg_fold.specs.reg_set.LastRecords.{last_records}
+use Rattle.reg_fold.specs.reg_set.Records.{Records}
 use Rattle.reg_fold.specs.IdMark.{needs_mark}
 use Rattle.reg_compaction.specs.Sorted.{IsSortedCompaction}
 

@@ -1,8 +1,8 @@
 -- Why a log doesn't begin anew at an offset.
 use Rattle.std.specs.Prelude.{◌≡◌, ℕ, List, true, false, Ok, codes, Option, IfSome}
 use Rattle.std.specs.Io.KnownBytes.{Keeps}
-use Rattle.reg_records.specs.Log.{LogText, log_of}
-use Rattle.reg_records.specs.declared.log.LogError.{LogError}
+use Rattle.reg_fold.specs.reg_records.Log.{LogText, log_of}
+use Rattle.reg_fold.specs.reg_records.declared.log.LogError.{LogError}
 use Rattle.reg_fold.specs.IdMark.{needs_mark}
 use Rattle.reg_journal.specs.Found.{HasFault}
 use Rattle.reg_compaction.specs.Filter.{IsFilterRefusal, exit_status as filter_status, filter_error_of, filter_error_text}

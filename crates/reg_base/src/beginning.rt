@@ -9,7 +9,7 @@ use crate::below::part_below;
 use crate::error::BaseError;
 use crate::marks::{is_crossed, owes_mark};
 use reg_compaction::{compacted_in_order, read_input, write_output};
-use reg_records::{Device, Output, read_log};
+use reg_fold::reg_records::{Device, Output, read_log};
 use std::alloc::Global;
 use std::io::Read;
 

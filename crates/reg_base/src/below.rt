@@ -1,14 +1,14 @@
 // The lines of a log below an offset.
 ghost use Rattle.std.specs.Prelude.{◌≡◌, ◌≤◌, ◌+◌, ◌++◌, ◌∷◌, [], ℕ, List, Ok, Some, IfOk, IfSome, OnOk, length};
 ghost use Rattle.reg_journal.specs.Lines.{text_of};
-ghost use Rattle.reg_records.specs.Log.{IsLogOf, LogText, log_of};
-ghost use Rattle.reg_records.specs.declared.record.Read.{Read};
+ghost use Rattle.reg_fold.specs.reg_records.Log.{IsLogOf, LogText, log_of};
+ghost use Rattle.reg_fold.specs.reg_records.declared.record.Read.{Read};
 ghost use Rattle.reg_compaction.specs.Fronts.{Front, HasLines};
 ghost use Rattle.reg_base.specs.Base.{is_below, lines_below, log_below};
 
 use reg_compaction::{floor_len, line_at};
+use reg_fold::reg_records::{Log, Read};
 use reg_journal::lines_are_logs;
-use reg_records::{Log, Read};
 use std::alloc::{AllocError, Global};
 
 /// The lines of a text below an offset, behind that of its floor. The log was read from the text.

@@ -1,6 +1,6 @@
 // Why a log doesn't begin anew at an offset.
 use reg_compaction::{FilterError, filter_error};
-use reg_records::LogError;
+use reg_fold::reg_records::LogError;
 use std::alloc::AllocError;
 use std::error::Error;
 use std::fmt;

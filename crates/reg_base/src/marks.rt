@@ -2,13 +2,13 @@
 ghost use Rattle.std.specs.Prelude.{◌≡◌, IfOk};
 ghost use Rattle.std.specs.FinSet.{from_list};
 ghost use Rattle.std.specs.List.{list_any};
-ghost use Rattle.reg_set.specs.LastRecords.{last_records};
+ghost use Rattle.reg_fold.specs.reg_set.LastRecords.{last_records};
 ghost use Rattle.reg_fold.specs.IdMark.{needs_mark};
 ghost use Rattle.reg_base.specs.Base.{may_cross};
 
 use reg_fold::Registry;
-use reg_records::{Key, Record};
-use reg_set::RecordSet;
+use reg_fold::reg_records::{Key, Record};
+use reg_fold::reg_set::RecordSet;
 use std::alloc::{AllocError, Global};
 
 /// Whether the records of one command may stand on both sides of the offset.

@@ -1,11 +1,11 @@
 -- The mark of ids is within the limits of ids.
 use Rattle.std.proofs.Common.{◌≡◌, ◌≤◌, ◌⊎◌, inl, inr, ℕ, Option, Some, None, option_and_then, unwrap_or, refl, subst, arith}
-use Rattle.reg_records.specs.Written.{IsVersionOrId}
-use Rattle.reg_records.specs.declared.key.Key.TheVariants as keys
-use Rattle.reg_records.specs.declared.limits.TheConstants.{NUMBER_LIMIT}
-use Rattle.reg_records.specs.declared.record.Record.{Record}
-use Rattle.reg_records.specs.declared.value.Value.{Value}
-use Rattle.reg_records.specs.declared.value.Value.TheVariants as values
+use Rattle.reg_values.specs.reg_records.Written.{IsVersionOrId}
+use Rattle.reg_values.specs.reg_records.declared.key.Key.TheVariants as keys
+use Rattle.reg_values.specs.reg_records.declared.limits.TheConstants.{NUMBER_LIMIT}
+use Rattle.reg_values.specs.reg_records.declared.record.Record.{Record}
+use Rattle.reg_values.specs.reg_records.declared.value.Value.{Value}
+use Rattle.reg_values.specs.reg_records.declared.value.Value.TheVariants as values
 use Rattle.reg_values.specs.OfKey.{IsValueOf, ValuesAreOfKeys}
 use Rattle.reg_values.specs.Value.{value_of}
 use Rattle.reg_set.specs.LastRecords.{last}

@@ -10,10 +10,10 @@ use Rattle.std.specs.FinSet as set
 use Rattle.std.specs.List.{AllZip, filter, list_any, reduce}
 use Rattle.std.specs.Option.{option_map_or}
 use Rattle.std.specs.Ordering.{eq_by_cmp, is_eq, ord_max}
-use Rattle.reg_records.specs.Key.{is_delete}
-use Rattle.reg_records.specs.declared.key.Key.{Key}
-use Rattle.reg_records.specs.declared.key.Key.TheVariants as keys
-use Rattle.reg_records.specs.declared.record.Record.{Record}
+use Rattle.reg_values.specs.reg_records.Key.{is_delete}
+use Rattle.reg_values.specs.reg_records.declared.key.Key.{Key}
+use Rattle.reg_values.specs.reg_records.declared.key.Key.TheVariants as keys
+use Rattle.reg_values.specs.reg_records.declared.record.Record.{Record}
 use Rattle.reg_set.specs.LastRecords.{is_of, last, last_records}
 use Rattle.reg_set.specs.RecordOrder.{age_cmp, record_cmp}
 use Rattle.reg_set.specs.Records.{Records, in_order, records_of}
@@ -32,7 +32,7 @@ use Rattle.reg_fold.specs.Spots.{Spot, HasSpots, is_spot, spot_cmp}
 use Rattle.reg_fold.specs.Step.{EntriesAreOfLasts, IsStep}
 use Rattle.reg_entries.specs.declared.entry.Entry.{Entry}
 use Rattle.reg_entries.specs.declared.soft_delete.SoftDelete.{SoftDelete}
-use Rattle.reg_level_names.specs.declared.level.Level.{Level}
+use Rattle.reg_values.specs.reg_level_names.declared.level.Level.{Level}
 use Rattle.reg_fold.specs.declared.index.Index.{Index}
 use Rattle.reg_fold.specs.declared.scoped.Scoped.{Scoped}
 use Rattle.reg_fold.proofs.OfLasts.{last_of_itself}

@@ -21,3 +21,4 @@ mod Standing
 mod Steps
 mod Tombstones
 mod Values
+pub use Rattle.reg_values.proofs.reg_records_proofs

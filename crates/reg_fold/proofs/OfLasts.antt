@@ -13,8 +13,8 @@ use Rattle.std.specs.Option.{option_map_or, unwrap_or}
 use Rattle.std.specs.Ordering.{eq_by_cmp, is_eq, is_lt}
 use Rattle.std.specs.declared.cmp.Ordering.{Ordering}
 use Rattle.std.specs.declared.cmp.Ordering.TheVariants.{Less, Equal, Greater}
-use Rattle.reg_records.specs.declared.key.Key.TheVariants as keys
-use Rattle.reg_records.specs.declared.record.Record.{Record}
+use Rattle.reg_values.specs.reg_records.declared.key.Key.TheVariants as keys
+use Rattle.reg_values.specs.reg_records.declared.record.Record.{Record}
 use Rattle.reg_set.specs.Join.{LastIsGreatest, LastRecordsKeepLasts, LastRecordsOfPart}
 use Rattle.reg_set.specs.LastRecords.{last, is_last, last_records}
 use Rattle.reg_set.specs.RecordOrder.{record_cmp}

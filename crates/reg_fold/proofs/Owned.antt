@@ -10,12 +10,12 @@ use Rattle.std.specs.Map.{lookup}
 use Rattle.std.specs.Ordering.{is_eq, nat_cmp}
 use Rattle.std.specs.Prelude.{⊤, string_bytes}
 use Rattle.std.specs.declared.string.String.{String}
-use Rattle.reg_records.specs.declared.key.Key.{Key}
-use Rattle.reg_records.specs.declared.key.Key.TheVariants as keys
-use Rattle.reg_records.specs.declared.record.Record.{Record}
+use Rattle.reg_values.specs.reg_records.declared.key.Key.{Key}
+use Rattle.reg_values.specs.reg_records.declared.key.Key.TheVariants as keys
+use Rattle.reg_values.specs.reg_records.declared.record.Record.{Record}
 use Rattle.reg_set.specs.LastRecords.{last}
 use Rattle.reg_set.specs.Records.{Records}
-use Rattle.reg_level_names.specs.declared.level.Level.{Level}
+use Rattle.reg_values.specs.reg_level_names.declared.level.Level.{Level}
 use Rattle.reg_fold.specs.IdMark.{id_mark, id_marked_of}
 use Rattle.reg_fold.specs.InForce.{Scope, level_of, mode_name_of, own_level, own_mode_name}
 use Rattle.reg_fold.specs.Scopes.{AreOwn, HasOwn, kept_own, same_scope}

@@ -10,7 +10,7 @@ use Rattle.std.specs.List.{AllByRecursion, cons_option, filter_map, fold}
 use Rattle.std.specs.Ordering.{nat_cmp, ordering_then}
 use Rattle.std.specs.declared.cmp.Ordering.{Ordering}
 use Rattle.std.specs.declared.cmp.Ordering.TheVariants.{Less, Equal, Greater}
-use Rattle.reg_records.specs.declared.record.Record.{Record}
+use Rattle.reg_values.specs.reg_records.declared.record.Record.{Record}
 use Rattle.reg_set.specs.Records.{Records, records_of}
 use Rattle.reg_entries.specs.EntryOrder.{Place, place_cmp, place_of}
 use Rattle.reg_entries.specs.declared.entry.Entry.{Entry}

@@ -11,9 +11,9 @@ use Rattle.std.specs.Option.{option_or, unwrap_or}
 use Rattle.std.specs.Ordering.{eq_by_cmp, is_eq, match_ordering}
 use Rattle.std.specs.declared.cmp.Ordering.{Ordering}
 use Rattle.std.specs.declared.cmp.Ordering.TheVariants.{Less, Equal, Greater}
-use Rattle.reg_records.specs.declared.key.Key.{Key}
-use Rattle.reg_records.specs.declared.key.Key.TheVariants as keys
-use Rattle.reg_records.specs.declared.record.Record.{Record}
+use Rattle.reg_values.specs.reg_records.declared.key.Key.{Key}
+use Rattle.reg_values.specs.reg_records.declared.key.Key.TheVariants as keys
+use Rattle.reg_values.specs.reg_records.declared.record.Record.{Record}
 use Rattle.reg_set.specs.Join.{LastIsGreatest}
 use Rattle.reg_set.specs.LastRecords.{last}
 use Rattle.reg_set.specs.RecordOrder.{record_cmp}

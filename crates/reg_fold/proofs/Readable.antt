@@ -5,8 +5,8 @@ use Rattle.std.proofs.lemmas.Bool.{false≢true}
 use Rattle.std.specs.FinMap as finmap
 use Rattle.std.specs.List.{AllByRecursion}
 use Rattle.std.specs.Option.{option_map_or}
-use Rattle.avro_schema.specs.Schema.{Meaning, schema_of}
-use Rattle.reg_records.specs.declared.record.Record.{Record}
+use Rattle.reg_values.specs.avro_schema.Schema.{Meaning, schema_of}
+use Rattle.reg_values.specs.reg_records.declared.record.Record.{Record}
 use Rattle.reg_set.specs.Records.{Records}
 use Rattle.reg_entries.specs.EntryOrder.{Place}
 use Rattle.reg_entries.specs.declared.entry.Entry.{Entry}

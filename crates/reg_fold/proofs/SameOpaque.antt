@@ -5,7 +5,7 @@ use Rattle.std.proofs.lemmas.Bool.Decides.{nat_tests}
 use Rattle.std.specs.Cmp.{IsTotalOrder}
 use Rattle.std.specs.FinSet.{IsAntisymmetric, contains}
 use Rattle.std.specs.List.{AllByRecursion, filter, reduce}
-use Rattle.reg_records.specs.declared.record.Record.{Record}
+use Rattle.reg_values.specs.reg_records.declared.record.Record.{Record}
 use Rattle.reg_set.specs.Join.{LastIsGreatest}
 use Rattle.reg_set.specs.LastRecords.{last_records}
 use Rattle.reg_set.specs.RecordOrder.{record_cmp}

@@ -4,10 +4,10 @@ use Rattle.std.proofs.lemmas.Bool.{false≢true}
 use Rattle.std.proofs.lemmas.Slice.Eq.{bytes_eq-Decides}
 use Rattle.std.specs.Option.{option_map_or}
 use Rattle.reg_values.specs.Value.{value_of}
-use Rattle.reg_records.specs.declared.key.Key.TheVariants as keys
-use Rattle.reg_records.specs.declared.record.Record.{Record}
-use Rattle.reg_records.specs.declared.value.Value.{Value}
-use Rattle.reg_records.specs.declared.value.Value.TheVariants as values
+use Rattle.reg_values.specs.reg_records.declared.key.Key.TheVariants as keys
+use Rattle.reg_values.specs.reg_records.declared.record.Record.{Record}
+use Rattle.reg_values.specs.reg_records.declared.value.Value.{Value}
+use Rattle.reg_values.specs.reg_records.declared.value.Value.TheVariants as values
 use Rattle.reg_set.specs.LastRecords.{last}
 use Rattle.reg_set.specs.Records.{Records}
 use Rattle.reg_fold.specs.Covers.{covers, is_soft_deleted}
@@ -17,7 +17,7 @@ use Rattle.reg_fold.specs.Step.{IsStep}
 use Rattle.reg_entries.specs.Covered.{is_covered}
 use Rattle.reg_entries.specs.declared.soft_delete.SoftDelete.{SoftDelete}
 use Rattle.reg_fold.specs.declared.scoped.Scoped.{Scoped}
-use Rattle.reg_records.specs.Key.{is_delete}
+use Rattle.reg_values.specs.reg_records.Key.{is_delete}
 
 -- the soft delete that a record is covers what its value covers
 pub covered_by : (r : Record) (version offset : ℕ)

@@ -6,12 +6,12 @@ use Rattle.std.specs.Cmp.{IsTotalOrder}
 use Rattle.std.specs.FinMap as finmap
 use Rattle.std.specs.FinSet.{IsAntisymmetric, contains}
 use Rattle.std.specs.List.{filter, reduce}
-use Rattle.reg_records.specs.Written.{IsVersionOrId}
+use Rattle.reg_values.specs.reg_records.Written.{IsVersionOrId}
 use Rattle.reg_values.specs.OfKey.{ValuesAreOfKeys}
-use Rattle.reg_records.specs.declared.key.Key.{Key}
-use Rattle.reg_records.specs.declared.key.Key.TheVariants as keys
-use Rattle.reg_records.specs.declared.record.Record.{Record}
-use Rattle.reg_records.specs.declared.value.Value.TheVariants as values
+use Rattle.reg_values.specs.reg_records.declared.key.Key.{Key}
+use Rattle.reg_values.specs.reg_records.declared.key.Key.TheVariants as keys
+use Rattle.reg_values.specs.reg_records.declared.record.Record.{Record}
+use Rattle.reg_values.specs.reg_records.declared.value.Value.TheVariants as values
 use Rattle.reg_set.specs.Join.{LastIsGreatest, LastOfLastRecords, LastRecordsKeepLasts, LastRecordsOfPart}
 use Rattle.reg_set.specs.LastRecords.{last, last_records}
 use Rattle.reg_set.specs.RecordOrder.{record_cmp}

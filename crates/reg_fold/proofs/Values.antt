@@ -4,15 +4,15 @@ use Rattle.std.proofs.Common.{Option, Some, None, option_and_then, unwrap_or, re
 use Rattle.std.specs.Prelude.{IfSome}
 use Rattle.serde_json.specs.Data.{Data}
 use Rattle.serde_json.specs.Read.{read}
-use Rattle.avro_schema.specs.Schema.{is_schema}
-use Rattle.reg_level_names.specs.Level.{is_level}
-use Rattle.reg_records.specs.Json.{text_at, text_where, number_at, has_text_at, has_number_at}
+use Rattle.reg_values.specs.avro_schema.Schema.{is_schema}
+use Rattle.reg_values.specs.reg_level_names.Level.{is_level}
+use Rattle.reg_values.specs.reg_records.Json.{text_at, text_where, number_at, has_text_at, has_number_at}
 use Rattle.reg_values.specs.Value.{value_of, value_of_text, value_in, is_plain_avro, deleted_in}
-use Rattle.reg_records.specs.declared.key.Key.{Key}
-use Rattle.reg_records.specs.declared.key.Key.TheVariants as keys
-use Rattle.reg_records.specs.declared.record.Record.{Record}
-use Rattle.reg_records.specs.declared.value.Value.{Value}
-use Rattle.reg_records.specs.declared.value.Value.TheVariants as values
+use Rattle.reg_values.specs.reg_records.declared.key.Key.{Key}
+use Rattle.reg_values.specs.reg_records.declared.key.Key.TheVariants as keys
+use Rattle.reg_values.specs.reg_records.declared.record.Record.{Record}
+use Rattle.reg_values.specs.reg_records.declared.value.Value.{Value}
+use Rattle.reg_values.specs.reg_records.declared.value.Value.TheVariants as values
 use Rattle.reg_set.specs.Records.{Records}
 use Rattle.reg_entries.specs.declared.entry.Entry.{Entry}
 use Rattle.reg_fold.specs.Entries.{entry_in, entry_of, normal_of}

@@ -2,9 +2,9 @@
 use Rattle.std.specs.Prelude.{ℕ, List, Bool, false, ◌&&◌, nat_le, nat_lt}
 use Rattle.std.specs.Option.{option_map_or}
 use Rattle.reg_values.specs.Value.{value_of}
-use Rattle.reg_records.specs.declared.key.Key.TheVariants as keys
-use Rattle.reg_records.specs.declared.value.Value.{Value}
-use Rattle.reg_records.specs.declared.value.Value.TheVariants as values
+use Rattle.reg_values.specs.reg_records.declared.key.Key.TheVariants as keys
+use Rattle.reg_values.specs.reg_records.declared.value.Value.{Value}
+use Rattle.reg_values.specs.reg_records.declared.value.Value.TheVariants as values
 use Rattle.reg_set.specs.LastRecords.{last}
 use Rattle.reg_set.specs.Records.{Records}
 

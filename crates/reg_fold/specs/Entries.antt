@@ -3,14 +3,14 @@ use Rattle.std.specs.Prelude.{◌≡◌, ◌↔◌, ℕ, List, [], ◌||◌, Opt
 use Rattle.std.specs.FinMap as finmap
 use Rattle.std.specs.List.{Contains, filter_map}
 use Rattle.std.specs.Option.{option_map_or}
-use Rattle.avro_schema.specs.Schema.{schema_of}
+use Rattle.reg_values.specs.avro_schema.Schema.{schema_of}
 use Rattle.reg_values.specs.Value.{value_of}
-use Rattle.reg_records.specs.Written.{IsVersionOrId}
-use Rattle.reg_records.specs.declared.key.Key.{Key}
-use Rattle.reg_records.specs.declared.key.Key.TheVariants as keys
-use Rattle.reg_records.specs.declared.record.Record.{Record}
-use Rattle.reg_records.specs.declared.value.Value.{Value}
-use Rattle.reg_records.specs.declared.value.Value.TheVariants as values
+use Rattle.reg_values.specs.reg_records.Written.{IsVersionOrId}
+use Rattle.reg_values.specs.reg_records.declared.key.Key.{Key}
+use Rattle.reg_values.specs.reg_records.declared.key.Key.TheVariants as keys
+use Rattle.reg_values.specs.reg_records.declared.record.Record.{Record}
+use Rattle.reg_values.specs.reg_records.declared.value.Value.{Value}
+use Rattle.reg_values.specs.reg_records.declared.value.Value.TheVariants as values
 use Rattle.reg_set.specs.LastRecords.{last, last_records}
 use Rattle.reg_set.specs.Records.{Records, records_of}
 use Rattle.reg_entries.specs.EntryOrder.{place_cmp, place_of}

@@ -1,11 +1,11 @@
 -- The id up to which ids were given away, as far as the records say. Below, rs are
 -- the last records. (Marks of soft deletes are another thing.)
 use Rattle.std.specs.Prelude.{◌≤◌, ℕ, max, Bool, nat_lt, Option, Some, None, option_and_then, unwrap_or}
-use Rattle.reg_records.specs.declared.key.Key.TheVariants as keys
-use Rattle.reg_records.specs.declared.limits.TheConstants.{NUMBER_LIMIT}
-use Rattle.reg_records.specs.declared.record.Record.{Record}
-use Rattle.reg_records.specs.declared.value.Value.{Value}
-use Rattle.reg_records.specs.declared.value.Value.TheVariants as values
+use Rattle.reg_values.specs.reg_records.declared.key.Key.TheVariants as keys
+use Rattle.reg_values.specs.reg_records.declared.limits.TheConstants.{NUMBER_LIMIT}
+use Rattle.reg_values.specs.reg_records.declared.record.Record.{Record}
+use Rattle.reg_values.specs.reg_records.declared.value.Value.{Value}
+use Rattle.reg_values.specs.reg_records.declared.value.Value.TheVariants as values
 use Rattle.reg_values.specs.Value.{value_of}
 use Rattle.reg_set.specs.LastRecords.{last}
 use Rattle.reg_set.specs.Records.{Records}

@@ -1,14 +1,14 @@
 -- The level in force, and the modes that scopes have. Below, rs are the last records, and a scope is a subject, or None for all subjects.
 use Rattle.std.specs.Prelude.{ℕ, List, Option, Some, None, option_and_then, unwrap_or}
 use Rattle.std.specs.Option.{option_or}
-use Rattle.reg_level_names.specs.Level.{level_named}
-use Rattle.reg_level_names.specs.declared.level.Level.{Level}
-use Rattle.reg_level_names.specs.declared.level.Level.TheVariants.{Backward}
+use Rattle.reg_values.specs.reg_level_names.Level.{level_named}
+use Rattle.reg_values.specs.reg_level_names.declared.level.Level.{Level}
+use Rattle.reg_values.specs.reg_level_names.declared.level.Level.TheVariants.{Backward}
 use Rattle.reg_values.specs.Value.{value_of}
-use Rattle.reg_records.specs.declared.key.Key.TheVariants as keys
-use Rattle.reg_records.specs.declared.value.Value.{Value}
-use Rattle.reg_records.specs.declared.value.Value.TheVariants as values
-use Rattle.reg_records.specs.declared.record.Record.{Record}
+use Rattle.reg_values.specs.reg_records.declared.key.Key.TheVariants as keys
+use Rattle.reg_values.specs.reg_records.declared.value.Value.{Value}
+use Rattle.reg_values.specs.reg_records.declared.value.Value.TheVariants as values
+use Rattle.reg_values.specs.reg_records.declared.record.Record.{Record}
 use Rattle.reg_set.specs.LastRecords.{last}
 use Rattle.reg_set.specs.Records.{Records}
 

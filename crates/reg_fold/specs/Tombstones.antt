@@ -1,6 +1,6 @@
 -- Private: records that a registry can add without memory.
 use Rattle.std.specs.Prelude.{Bool, ◌&&◌, is_none, is_some}
-use Rattle.reg_records.specs.declared.record.Record.{Record}
+use Rattle.reg_values.specs.reg_records.declared.record.Record.{Record}
 use Rattle.reg_set.specs.LastRecords.{last}
 use Rattle.reg_set.specs.Records.{Records}
 use Rattle.reg_fold.specs.Opaque.{is_version}

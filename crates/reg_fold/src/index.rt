@@ -2,7 +2,7 @@
 ghost use Rattle.std.specs.Prelude.{◌≡◌, ◌≢◌, IsSome, IfSome, IfOk, OnOk, OnErr, Some, None, true, false, is_none, is_some};
 ghost use Rattle.std.specs.FinMap as finmap;
 ghost use Rattle.std.specs.FinSet as set;
-ghost use Rattle.reg_records.specs.declared.key.Key.TheVariants as keys;
+ghost use Rattle.reg_values.specs.reg_records.declared.key.Key.TheVariants as keys;
 ghost use Rattle.reg_set.specs.LastRecords.{last, last_records, with_last};
 ghost use Rattle.reg_fold.specs.Entries.{AreOfLasts, entries};
 ghost use Rattle.reg_fold.specs.GiveAlike.{GiveAlike};
@@ -17,11 +17,11 @@ use crate::reading::{delete_of, id_marked_of, own_entry_of};
 use crate::scoped::Scoped;
 use crate::settings::put_own;
 use crate::spots::{Spot, forget, forget_elsewhere, spot_of};
-use base_text::Text;
 use reg_entries::{Entries, Entry, SoftDelete};
-use reg_level_names::Level;
-use reg_records::{Key, Record};
 use reg_set::{LastRecords, last_is_greatest, last_records_are_enough, records_are_ordered};
+use reg_values::base_text::Text;
+use reg_values::reg_level_names::Level;
+use reg_values::reg_records::{Key, Record};
 use std::alloc::{AllocError, Global};
 use std::collections::BTreeSet;
 

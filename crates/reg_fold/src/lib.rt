@@ -15,7 +15,12 @@ pub use laws::{
     found_entries_stand, giving_alike_is_an_equivalence, id_mark_is_in_limits,
     none_is_no_opaque_last,
 };
+pub use reg_entries;
 pub use reg_entries::{Entry, two_schemas_is_least};
+pub use reg_refusals;
 pub use reg_refusals::{Allow, Reason, Refusal, StoreFault};
+pub use reg_set;
+pub use reg_values;
+pub use reg_values::{avro_schema, base_text, reg_level_names, reg_records};
 pub use registry::Registry;
 pub use version_ref::VersionRef;

@@ -6,11 +6,11 @@ ghost use Rattle.reg_fold.specs.InForce.{level_of, mode_name_of};
 ghost use Rattle.reg_fold.specs.Own.{own_entry_of};
 ghost use Rattle.reg_fold.specs.SoftDeletes.{delete_of};
 
-use avro_schema::Schema;
-use base_text::Text;
 use reg_entries::{Entry, SoftDelete};
-use reg_level_names::Level;
-use reg_records::{Record, Value};
+use reg_values::avro_schema::Schema;
+use reg_values::base_text::Text;
+use reg_values::reg_level_names::Level;
+use reg_values::reg_records::{Record, Value};
 use reg_values::{Decoded, decode, decode_value};
 use std::alloc::{AllocError, Global};
 

@@ -22,14 +22,14 @@ ghost use Rattle.reg_entries.specs.Sought.{AreInVersionOrder, counting, has_live
 use crate::index::Index;
 use crate::laws::giving_alike_is_an_equivalence;
 use crate::version_ref::VersionRef;
-use base_text::Text;
 use reg_entries::Entry;
-use reg_level_names::Level;
-use reg_records::{Key, Record};
 use reg_set::{
     RecordSet, last_is_greatest, last_records_are_enough, last_records_of_unions,
     records_are_ordered,
 };
+use reg_values::base_text::Text;
+use reg_values::reg_level_names::Level;
+use reg_values::reg_records::{Key, Record};
 use std::alloc::{AllocError, Global};
 use std::marker::Model;
 
@@ -42,7 +42,7 @@ pub struct Registry {
 }
 
 impl Model for Registry {
-    ghost use Rattle.reg_records.specs.contracts.record.Record as rows;
+    ghost use Rattle.reg_values.specs.reg_records.contracts.record.Record as rows;
     ghost use Rattle.std.specs.FinSet as set;
     ghost use Rattle.reg_set.specs.Records.{Records};
     ghost use Rattle.reg_fold.specs.Kept.{IsKept};

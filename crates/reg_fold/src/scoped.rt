@@ -5,7 +5,7 @@ ghost use Rattle.std.specs.Option.{option_copied};
 ghost use Rattle.reg_fold.specs.InForce.{Scope};
 ghost use Rattle.reg_fold.specs.Scopes.{HasOwn, kept_own};
 
-use base_text::Text;
+use reg_values::base_text::Text;
 use std::alloc::{AllocError, Global};
 use std::collections::BTreeMap;
 

@@ -1,7 +1,7 @@
 // The records of levels and modes, which scopes have of their own.
 ghost use Rattle.std.specs.Prelude.{◌≡◌, ◌≢◌, OnOk, OnErr};
 ghost use Rattle.std.specs.FinSet as set;
-ghost use Rattle.reg_records.specs.declared.key.Key.TheVariants as keys;
+ghost use Rattle.reg_values.specs.reg_records.declared.key.Key.TheVariants as keys;
 ghost use Rattle.reg_set.specs.LastRecords.{last_records};
 ghost use Rattle.reg_fold.specs.InForce.{Scope};
 ghost use Rattle.reg_fold.specs.Scopes.{HasOwn, kept_own};
@@ -10,9 +10,9 @@ ghost use Rattle.reg_fold.specs.Step.{IsStep};
 use crate::index::{Index, put_last};
 use crate::reading::{level_of, mode_name_of};
 use crate::scoped::Scoped;
-use base_text::Text;
-use reg_records::Record;
 use reg_set::LastRecords;
+use reg_values::base_text::Text;
+use reg_values::reg_records::Record;
 use std::alloc::{AllocError, Global};
 
 impl Index {

@@ -2,8 +2,8 @@
 ghost use Rattle.std.specs.Prelude.{◌≡◌};
 ghost use Rattle.reg_fold.specs.Spots.{Forgets, elsewhere, spot_of};
 
-use base_text::Text;
-use reg_records::Record;
+use reg_values::base_text::Text;
+use reg_values::reg_records::Record;
 use std::collections::BTreeSet;
 
 /// The offset of a version's record, and the version's subject and number.

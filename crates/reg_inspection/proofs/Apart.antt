@@ -6,9 +6,9 @@ use Rattle.std.proofs.lemmas.Map.Keys.{IsStrictlyIncreasing-from_sorted}
 use Rattle.std.proofs.lemmas.Slice.Eq.{bytes_eq-Decides}
 use Rattle.std.specs.List.{list_any}
 use Rattle.std.specs.Prelude.{bytes_eq}
-use Rattle.reg_entries.specs.Sought.{with_id}
-use Rattle.reg_entries.specs.TwoSchemas.{HasTwoSchemas}
-use Rattle.reg_entries.specs.declared.entry.Entry.{Entry}
+use Rattle.reg_fold.specs.reg_entries.Sought.{with_id}
+use Rattle.reg_fold.specs.reg_entries.TwoSchemas.{HasTwoSchemas}
+use Rattle.reg_fold.specs.reg_entries.declared.entry.Entry.{Entry}
 use Rattle.reg_inspection.specs.Shared.{SharedIdsNameTwo, SharedIdsRise, are_apart, ids_of, shared_ids}
 use Rattle.reg_inspection.proofs.Members.{IsIn, any_found, any_in, by_bool, contains_in}
 use Rattle.reg_inspection.proofs.Members.{in_contains, in_filter, in_map}

@@ -6,13 +6,13 @@ use Rattle.std.specs.Prelude.{codes, is_none, is_some, if◌then◌else◌}
 use Rattle.serde_json.specs.Data.{Data, null, boolean, number, string, array, object}
 use Rattle.serde_json.specs.Find.{get}
 use Rattle.serde_json.specs.Read.{read}
-use Rattle.avro_schema.specs.Schema.{is_schema}
-use Rattle.reg_records.specs.Json.{is_null, text_at, text_where, number_at, has_text_at, has_number_at}
-use Rattle.reg_records.specs.declared.key.Key.{Key}
-use Rattle.reg_records.specs.declared.key.Key.TheVariants as keys
-use Rattle.reg_records.specs.declared.value.Value.{Value}
-use Rattle.reg_records.specs.declared.value.Value.TheVariants as values
-use Rattle.reg_values.specs.Value.{is_absent_or, is_avro_name, is_empty_list, is_plain_avro, deleted_in, value_in, value_of_text}
+use Rattle.reg_fold.specs.avro_schema.Schema.{is_schema}
+use Rattle.reg_fold.specs.reg_records.Json.{is_null, text_at, text_where, number_at, has_text_at, has_number_at}
+use Rattle.reg_fold.specs.reg_records.declared.key.Key.{Key}
+use Rattle.reg_fold.specs.reg_records.declared.key.Key.TheVariants as keys
+use Rattle.reg_fold.specs.reg_records.declared.value.Value.{Value}
+use Rattle.reg_fold.specs.reg_records.declared.value.Value.TheVariants as values
+use Rattle.reg_fold.specs.reg_values.Value.{is_absent_or, is_avro_name, is_empty_list, is_plain_avro, deleted_in, value_in, value_of_text}
 use Rattle.reg_fold.specs.Opaque.{is_opaque, is_version}
 use Rattle.reg_inspection.specs.Cause.{CausesAreOfOpaque, beyond_avro, cause_in, type_cause, version_in}
 use Rattle.reg_inspection.specs.declared.cause.OpaqueCause.{OpaqueCause}

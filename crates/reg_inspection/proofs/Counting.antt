@@ -2,7 +2,7 @@
 use Rattle.std.proofs.Common.{◌≡◌, ◌+◌, ◌-◌, ℕ, Bool, true, false, not, cond, List, [], ◌∷◌, length, map, Bor, refl, ap, ◌∙◌, arith}
 use Rattle.std.proofs.lemmas.List.Sums.{sum_by-cons}
 use Rattle.std.specs.List.{count_by}
-use Rattle.reg_entries.specs.declared.entry.Entry.{Entry}
+use Rattle.reg_fold.specs.reg_entries.declared.entry.Entry.{Entry}
 use Rattle.reg_inspection.specs.declared.counts.Counts.{Counts}
 
 one_of : (b : Bool) → cond (not b) 1 0 + cond b 1 0 ≡ 1

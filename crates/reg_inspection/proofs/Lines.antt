@@ -12,14 +12,14 @@ use Rattle.std.specs.Result.{result_ok}
 use Rattle.std.specs.declared.result.Result.{Result}
 use Rattle.reg_journal.specs.Lines.{Say, SaysFloor, text_of}
 use Rattle.reg_compaction.specs.Fronts.{Front, HasLines}
-use Rattle.reg_records.proofs.Floors.{is_floor_line-mark, not_floor_line, one_line as one_line_of}
-use Rattle.reg_records.specs.Floor.{floor_mark, is_floor_line}
-use Rattle.reg_records.specs.Line.{is_line_feed, reading}
-use Rattle.reg_records.specs.Pieces.{HasNoLineFeed}
-use Rattle.reg_records.specs.Log.{is_foreign, records_in}
-use Rattle.reg_records.specs.declared.line.LineError.{LineError}
-use Rattle.reg_records.specs.declared.record.Read.{Read}
-use Rattle.reg_records.specs.declared.record.Read.TheVariants as reads
+use Rattle.reg_fold.proofs.reg_records_proofs.Floors.{is_floor_line-mark, not_floor_line, one_line as one_line_of}
+use Rattle.reg_fold.specs.reg_records.Floor.{floor_mark, is_floor_line}
+use Rattle.reg_fold.specs.reg_records.Line.{is_line_feed, reading}
+use Rattle.reg_fold.specs.reg_records.Pieces.{HasNoLineFeed}
+use Rattle.reg_fold.specs.reg_records.Log.{is_foreign, records_in}
+use Rattle.reg_fold.specs.reg_records.declared.line.LineError.{LineError}
+use Rattle.reg_fold.specs.reg_records.declared.record.Read.{Read}
+use Rattle.reg_fold.specs.reg_records.declared.record.Read.TheVariants as reads
 use Rattle.reg_inspection.specs.Foreign.{before_empty, foreign_keytypes, is_foreign_line, keytype_in, log_lines}
 
 -- each line is a record's or foreign

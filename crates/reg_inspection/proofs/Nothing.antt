@@ -4,11 +4,11 @@ use Rattle.std.proofs.Common.{◌++◌, map, Option, Some, None, option_and_then
 use Rattle.std.proofs.lemmas.Bool.{false≢true}
 use Rattle.std.specs.List.{cons_option, filter, filter_map, reduce}
 use Rattle.std.specs.Prelude.{bytes_eq, is_some}
-use Rattle.reg_records.specs.declared.record.Record.{Record}
-use Rattle.reg_set.specs.Records.{Records, records_of}
-use Rattle.reg_entries.specs.Sought as sought
-use Rattle.reg_entries.specs.TwoSchemas.{HasTwoSchemas, NoneIsOneTextEach}
-use Rattle.reg_entries.specs.declared.entry.Entry.{Entry}
+use Rattle.reg_fold.specs.reg_records.declared.record.Record.{Record}
+use Rattle.reg_fold.specs.reg_set.Records.{Records, records_of}
+use Rattle.reg_fold.specs.reg_entries.Sought as sought
+use Rattle.reg_fold.specs.reg_entries.TwoSchemas.{HasTwoSchemas, NoneIsOneTextEach}
+use Rattle.reg_fold.specs.reg_entries.declared.entry.Entry.{Entry}
 use Rattle.reg_fold.specs.Closed.{is_closed, two_schemas}
 use Rattle.reg_fold.specs.Entries.{entries}
 use Rattle.reg_fold.specs.Opaque.{is_opaque, opaque}

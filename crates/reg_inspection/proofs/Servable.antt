@@ -2,7 +2,7 @@
 use Rattle.std.proofs.Common.{◌≡◌, ℕ, true, false, List, [], ◌∷◌, length, refl, sym, ◌∙◌, arith}
 use Rattle.std.proofs.lemmas.Bool.Decides.{nat_tests}
 use Rattle.std.specs.Prelude.{nat_eq}
-use Rattle.reg_set.specs.Records.{Records}
+use Rattle.reg_fold.specs.reg_set.Records.{Records}
 use Rattle.reg_inspection.specs.Obstacles.{NoObstacleIsOpen, can_begin, obstacles}
 use Rattle.reg_inspection.specs.declared.obstacle.Obstacle.{Obstacle}
 

@@ -5,12 +5,12 @@ use Rattle.std.specs.Option.{option_map_or, option_or}
 use Rattle.serde_json.specs.Data.{Data}
 use Rattle.serde_json.specs.Find.{get, as_object}
 use Rattle.serde_json.specs.Read.{read}
-use Rattle.avro_schema.specs.Schema.{is_schema}
-use Rattle.reg_records.specs.Json.{is_null, text_at, text_where, number_at, has_text_at, has_number_at}
-use Rattle.reg_records.specs.declared.key.Key.{Key}
-use Rattle.reg_records.specs.declared.key.Key.TheVariants as keys
-use Rattle.reg_records.specs.declared.record.Record.{Record}
-use Rattle.reg_values.specs.Value.{is_absent_or, is_avro_name, is_empty_list, deleted_in}
+use Rattle.reg_fold.specs.avro_schema.Schema.{is_schema}
+use Rattle.reg_fold.specs.reg_records.Json.{is_null, text_at, text_where, number_at, has_text_at, has_number_at}
+use Rattle.reg_fold.specs.reg_records.declared.key.Key.{Key}
+use Rattle.reg_fold.specs.reg_records.declared.key.Key.TheVariants as keys
+use Rattle.reg_fold.specs.reg_records.declared.record.Record.{Record}
+use Rattle.reg_fold.specs.reg_values.Value.{is_absent_or, is_avro_name, is_empty_list, deleted_in}
 use Rattle.reg_fold.specs.Opaque.{is_opaque}
 use Rattle.reg_inspection.specs.declared.cause.OpaqueCause.{OpaqueCause}
 use Rattle.reg_inspection.specs.declared.cause.OpaqueCause.TheVariants as causes

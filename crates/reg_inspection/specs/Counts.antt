@@ -1,13 +1,13 @@
 -- What a log holds, in numbers.
 use Rattle.std.specs.Prelude.{ℕ, List, true, not, count_by, length, Option, None, if◌then◌else◌}
 use Rattle.std.specs.FinSet.{from_list}
-use Rattle.reg_records.specs.Log.{is_foreign, next_of, records_in}
-use Rattle.reg_records.specs.declared.log.Log.{Log}
-use Rattle.reg_records.specs.declared.record.Read.{Read}
-use Rattle.reg_set.specs.LastRecords.{last_records}
-use Rattle.reg_set.specs.Records.{Records}
-use Rattle.reg_entries.specs.Sought.{subjects}
-use Rattle.reg_entries.specs.declared.entry.Entry.{Entry}
+use Rattle.reg_fold.specs.reg_records.Log.{is_foreign, next_of, records_in}
+use Rattle.reg_fold.specs.reg_records.declared.log.Log.{Log}
+use Rattle.reg_fold.specs.reg_records.declared.record.Read.{Read}
+use Rattle.reg_fold.specs.reg_set.LastRecords.{last_records}
+use Rattle.reg_fold.specs.reg_set.Records.{Records}
+use Rattle.reg_fold.specs.reg_entries.Sought.{subjects}
+use Rattle.reg_fold.specs.reg_entries.declared.entry.Entry.{Entry}
 use Rattle.reg_fold.specs.Entries.{entries}
 use Rattle.reg_fold.specs.IdMark.{needs_mark}
 use Rattle.reg_fold.specs.Standing.{greatest_id}

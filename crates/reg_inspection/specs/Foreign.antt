@@ -10,9 +10,9 @@ use Rattle.std.specs.Ordering.{eq_by_cmp, nat_cmp}
 use Rattle.std.specs.Result.{result_ok}
 use Rattle.std.specs.declared.cmp.Ordering.{Ordering}
 use Rattle.serde_json.specs.Read.{read}
-use Rattle.reg_records.specs.Json.{text_at}
-use Rattle.reg_records.specs.Line.{is_line_feed, is_tab, reading}
-use Rattle.reg_records.specs.Log.{is_foreign}
+use Rattle.reg_fold.specs.reg_records.Json.{text_at}
+use Rattle.reg_fold.specs.reg_records.Line.{is_line_feed, is_tab, reading}
+use Rattle.reg_fold.specs.reg_records.Log.{is_foreign}
 use Rattle.reg_inspection.specs.Shared.{rising_by}
 
 -- the lines before the first empty one

@@ -1,8 +1,8 @@
 -- What an inspection of a log says.
 use Rattle.std.specs.Prelude.{◌≡◌, ℕ, List, Bool, Ok, Option, string_bytes}
 use Rattle.std.specs.Io.KnownBytes.{Appends}
-use Rattle.reg_records.specs.Log.{LogText, log_of, next_of}
-use Rattle.reg_records.specs.declared.record.Read.{Read}
+use Rattle.reg_fold.specs.reg_records.Log.{LogText, log_of, next_of}
+use Rattle.reg_fold.specs.reg_records.declared.record.Read.{Read}
 use Rattle.reg_inspection.specs.Counts.{counts_of, lasts_in, mark_due}
 use Rattle.reg_inspection.specs.Foreign.{foreign_tally}
 use Rattle.reg_inspection.specs.Obstacles.{can_begin, obstacles}

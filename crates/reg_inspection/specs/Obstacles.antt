@@ -3,12 +3,12 @@ use Rattle.std.specs.Prelude.{◌≡◌, ◌↔◌, ℕ, List, [], ◌∷◌, �
 use Rattle.std.specs.Prelude.{Option, option_and_then, option_map, map, codes, decimal, if◌then◌else◌}
 use Rattle.std.specs.List.{filter_map, list_all}
 use Rattle.json.specs.Print.{quoted}
-use Rattle.reg_records.specs.declared.record.Record.{Record}
-use Rattle.reg_set.specs.Records.{Records, records_of}
+use Rattle.reg_fold.specs.reg_records.declared.record.Record.{Record}
+use Rattle.reg_fold.specs.reg_set.Records.{Records, records_of}
 use Rattle.reg_fold.specs.Closed.{is_closed}
 use Rattle.reg_fold.specs.Entries.{entries}
 use Rattle.reg_fold.specs.IdMark.{needs_mark}
-use Rattle.reg_records.specs.declared.limits.TheConstants.{OFFSET_LIMIT}
+use Rattle.reg_fold.specs.reg_records.declared.limits.TheConstants.{OFFSET_LIMIT}
 use Rattle.reg_inspection.specs.Cause.{cause_of, version_in}
 use Rattle.reg_inspection.specs.Shared.{shared_ids}
 use Rattle.reg_inspection.specs.declared.obstacle.Obstacle.{Obstacle}

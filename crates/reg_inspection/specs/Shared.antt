@@ -5,9 +5,9 @@ use Rattle.std.specs.List.{Contains, filter, list_any}
 use Rattle.std.specs.List.Sorted.{IsStrictlyIncreasing}
 use Rattle.std.specs.Ordering.{nat_cmp}
 use Rattle.std.specs.declared.cmp.Ordering.{Ordering}
-use Rattle.reg_entries.specs.Sought.{with_id}
-use Rattle.reg_entries.specs.TwoSchemas.{HasTwoSchemas}
-use Rattle.reg_entries.specs.declared.entry.Entry.{Entry}
+use Rattle.reg_fold.specs.reg_entries.Sought.{with_id}
+use Rattle.reg_fold.specs.reg_entries.TwoSchemas.{HasTwoSchemas}
+use Rattle.reg_fold.specs.reg_entries.declared.entry.Entry.{Entry}
 
 -- the items in ascending order, each once
 abbrev pub rising_by : {X : Type 0} → (X → X → Ordering) → List X → List X

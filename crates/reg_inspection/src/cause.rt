@@ -4,9 +4,9 @@ ghost use Rattle.std.specs.Option.{option_map_or};
 ghost use Rattle.serde_json.specs.View.{view};
 ghost use Rattle.reg_inspection.specs.Cause.{beyond_avro, beyond_numbers, cause_in, cause_of, schema_cause, type_cause};
 
-use avro_schema::Schema;
-use reg_records::{Key, Record, has_number_at, has_text_at, number_at, parse, text_at};
-use reg_values::{deleted_in, has_no_items, is_absent, is_avro};
+use reg_fold::avro_schema::Schema;
+use reg_fold::reg_records::{Key, Record, has_number_at, has_text_at, number_at, parse, text_at};
+use reg_fold::reg_values::{deleted_in, has_no_items, is_absent, is_avro};
 use serde_json::Value as Json;
 use std::alloc::{AllocError, Global};
 use std::error::Error;

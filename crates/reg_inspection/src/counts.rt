@@ -1,12 +1,12 @@
 // What a log holds, in numbers.
 ghost use Rattle.std.specs.Prelude.{◌≡◌, true, IfOk, count_by, length, map};
-ghost use Rattle.reg_entries.specs.Sought.{subjects};
+ghost use Rattle.reg_fold.specs.reg_entries.Sought.{subjects};
 ghost use Rattle.reg_fold.specs.Entries.{entries};
 ghost use Rattle.reg_inspection.specs.Counts.{counts_in, mark_due};
 ghost use Rattle.reg_inspection.specs.Shared.{ids_of};
 
+use reg_fold::reg_records::Log;
 use reg_fold::{Entry, Registry};
-use reg_records::Log;
 use std::alloc::AllocError;
 use std::collections::BTreeSet;
 

@@ -2,17 +2,17 @@
 ghost use Rattle.std.specs.Prelude.{◌≡◌, ◌≤◌, ◌+◌, ◌++◌, ◌∷◌, [], ℕ, List, Ok, Some, IfOk, IfSome, OnOk, length, option_map, codes};
 ghost use Rattle.std.specs.List.{slice_get, slice_split};
 ghost use Rattle.serde_json.specs.View.{view};
-ghost use Rattle.reg_records.specs.Json.{text_at};
-ghost use Rattle.reg_records.specs.Line.{is_tab, reading};
-ghost use Rattle.reg_records.specs.Log.{IsLogOf, LogText, log_of};
-ghost use Rattle.reg_records.specs.declared.record.Read.{Read};
+ghost use Rattle.reg_fold.specs.reg_records.Json.{text_at};
+ghost use Rattle.reg_fold.specs.reg_records.Line.{is_tab, reading};
+ghost use Rattle.reg_fold.specs.reg_records.Log.{IsLogOf, LogText, log_of};
+ghost use Rattle.reg_fold.specs.reg_records.declared.record.Read.{Read};
 ghost use Rattle.reg_compaction.specs.Fronts.{Front, HasLines};
 ghost use Rattle.reg_inspection.specs.Foreign.{foreign_keytypes, foreign_tally, keytype_in, tally_of};
 
-use base_text::Text;
 use reg_compaction::{floor_len, line_at};
+use reg_fold::base_text::Text;
+use reg_fold::reg_records::{Log, Read, lines_are_of_the_grammar, parse, text_at};
 use reg_journal::lines_are_logs;
-use reg_records::{Log, Read, lines_are_of_the_grammar, parse, text_at};
 use serde_json::Value as Json;
 use std::alloc::{AllocError, Global};
 use std::collections::BTreeMap;

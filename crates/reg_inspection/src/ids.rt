@@ -1,7 +1,7 @@
 // The ids of entries, and those that name two schemas.
 ghost use Rattle.std.specs.Prelude.{◌≡◌, IfOk, map, not, bytes_eq};
 ghost use Rattle.std.specs.List.{list_any};
-ghost use Rattle.reg_entries.specs.Sought.{with_id};
+ghost use Rattle.reg_fold.specs.reg_entries.Sought.{with_id};
 ghost use Rattle.reg_fold.specs.Entries.{entries};
 ghost use Rattle.reg_inspection.specs.Shared.{are_apart, ids_of, shared_ids};
 

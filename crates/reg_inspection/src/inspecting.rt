@@ -7,7 +7,7 @@ ghost use Rattle.reg_inspection.specs.Inspection.{Describes, Reports};
 use crate::inspection::inspected;
 use crate::laws::no_obstacle_is_open;
 use reg_compaction::{FilterError, filter_error, read_input, write_output};
-use reg_records::{LogError, Output};
+use reg_fold::reg_records::{LogError, Output};
 use std::alloc::Global;
 use std::io::Read;
 

@@ -1,8 +1,8 @@
 // What a log holds, and what keeps it from being served.
 ghost use Rattle.std.specs.Prelude.{◌≡◌, ◌==◌, ◌++◌, ℕ, List, Ok, IfErr, IfOk, OnOk, length, string_bytes};
 ghost use Rattle.std.specs.List.{flat_map};
-ghost use Rattle.reg_records.specs.Log.{IsLogOf, LogText, log_of};
-ghost use Rattle.reg_records.specs.declared.record.Read.{Read};
+ghost use Rattle.reg_fold.specs.reg_records.Log.{IsLogOf, LogText, log_of};
+ghost use Rattle.reg_fold.specs.reg_records.declared.record.Read.{Read};
 ghost use Rattle.reg_journal.specs.Found.{HasFault};
 ghost use Rattle.reg_inspection.specs.Inspection.{IsInspectionOf};
 ghost use Rattle.reg_inspection.specs.Foreign.{foreign_tally};
@@ -12,8 +12,8 @@ use crate::counts::{Counts, counts_of, mark_due};
 use crate::foreign::foreign_in;
 use crate::ids::ids_of;
 use crate::obstacle::{Obstacle, lasts_of, obstacles_in};
-use base_text::Text;
-use reg_records::{Device, Log, LogError, quoted, read_log};
+use reg_fold::base_text::Text;
+use reg_fold::reg_records::{Device, Log, LogError, quoted, read_log};
 use std::alloc::{AllocError, Global};
 use std::collections::BTreeMap;
 

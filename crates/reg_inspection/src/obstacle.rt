@@ -2,7 +2,7 @@
 ghost use Rattle.std.specs.Prelude.{◌≡◌, ◌↔◌, ◌++◌, [], true, IfOk, OnOk, map, option_to_list, string_bytes};
 ghost use Rattle.std.specs.List.{filter_map};
 ghost use Rattle.std.specs.FinSet.{from_list};
-ghost use Rattle.reg_set.specs.LastRecords.{last_records};
+ghost use Rattle.reg_fold.specs.reg_set.LastRecords.{last_records};
 ghost use Rattle.reg_fold.specs.Entries.{entries};
 ghost use Rattle.reg_inspection.specs.Obstacles.{can_begin, has_no_place, is_plain, obstacles, opaque_in, opaque_text, shown};
 ghost use Rattle.reg_inspection.specs.Shared.{ids_of, shared_ids};
@@ -10,10 +10,10 @@ ghost use Rattle.reg_inspection.specs.Shared.{ids_of, shared_ids};
 use crate::cause::{OpaqueCause, cause_of};
 use crate::ids::{ids_of, shared_ids};
 use crate::laws::no_obstacle_is_open;
-use base_text::Text;
 use reg_fold::Registry;
-use reg_records::{Key, Log, OFFSET_LIMIT, Record, quoted};
-use reg_set::{RecordSet, last_records_are_enough};
+use reg_fold::base_text::Text;
+use reg_fold::reg_records::{Key, Log, OFFSET_LIMIT, Record, quoted};
+use reg_fold::reg_set::{RecordSet, last_records_are_enough};
 use std::alloc::{AllocError, Global};
 use std::collections::BTreeSet;
 

@@ -4,7 +4,7 @@ use Rattle.std.proofs.Common.{Some, None, option_map, refl, sym, ap, subst, â—Œâ
 use Rattle.std.proofs.lemmas.List.{drop-map, get_or-drop, length-drop, length-map}
 use Rattle.std.specs.List.{find, slice_index}
 use Rattle.std.specs.List.Sorted.{IsStrictlyIncreasing}
-use Rattle.avro_schema.specs.Schema.{is_schema}
+use Rattle.avro_resolve.specs.avro_schema.Schema.{is_schema}
 use Rattle.reg_level_names.specs.declared.level.Level.{Level}
 use Rattle.reg_level_names.specs.declared.level.Level.TheVariants as levels
 use Rattle.reg_levels.specs.Judgement.{first_unread}

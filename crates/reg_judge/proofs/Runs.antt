@@ -4,7 +4,7 @@ use Rattle.std.proofs.Common.{drop, get_or, flat_map, refl, sym, ap, subst, â—Œâ
 use Rattle.std.proofs.lemmas.List.{map-append, reverse-append, take_more, drop_more, drop-map, length-map}
 use Rattle.std.proofs.lemmas.Simd.{map-map}
 use Rattle.std.specs.List.Sorted.{IsStrictlyIncreasing}
-use Rattle.avro_schema.specs.declared.node.Node.{Node}
+use Rattle.avro_resolve.specs.avro_schema.declared.node.Node.{Node}
 use Rattle.avro_resolve.specs.Verdict.{HaveOneVerdict}
 use Rattle.avro_resolve.specs.declared.resolving.Verdict.{Verdict}
 use Rattle.avro_resolve.specs.declared.resolving.Verdict.TheVariants.{Compatible, Clash}

@@ -4,7 +4,7 @@ use Rattle.std.specs.Option.{option_map_or}
 use Rattle.std.specs.Prelude.{List, string_eq}
 use Rattle.std.proofs.lemmas.List.{map-append}
 use Rattle.std.proofs.lemmas.Slice.Eq.{bytes_eq-Decides}
-use Rattle.avro_schema.specs.Schema.{Meaning, schema_of}
+use Rattle.avro_resolve.specs.avro_schema.Schema.{Meaning, schema_of}
 use Rattle.avro_resolve.specs.declared.resolving.Verdict.{Verdict}
 use Rattle.reg_levels.specs.Texts.{nodes_in}
 use Rattle.reg_judge.specs.declared.kept_schema.KeptSchema.{KeptSchema}

@@ -1,6 +1,6 @@
 -- Private: what a judge keeps, and how a judgement goes on.
 use Rattle.std.specs.Prelude.{◌≡◌, ◌⊎◌, ◌++◌, ℕ, List, [], ◌∷◌, Some, false, Contains, map, reverse, flat_map, String, string_bytes}
-use Rattle.avro_schema.specs.Schema.{schema_of}
+use Rattle.avro_resolve.specs.avro_schema.Schema.{schema_of}
 use Rattle.avro_resolve.specs.Trails.{IsShown}
 use Rattle.avro_resolve.specs.Verdict.{IsVerdict}
 use Rattle.avro_resolve.specs.declared.trail.Trail.{Trail}

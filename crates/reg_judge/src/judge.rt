@@ -13,8 +13,8 @@ use crate::judging::{Run, judge_each};
 use crate::limits::KEPT_LIMIT;
 use crate::schemas::{Schemas, keep, keep_olds, take, take_olds};
 use crate::verdicts::{Verdicts, keep_all};
+use avro_resolve::base_text::Text;
 use avro_resolve::schemas_have_one_verdict;
-use base_text::Text;
 use lru::LruCache;
 use reg_level_names::Level;
 use reg_levels::{

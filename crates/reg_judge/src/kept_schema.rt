@@ -2,7 +2,7 @@
 ghost use Rattle.std.specs.Prelude.{◌≡◌};
 ghost use Rattle.std.specs.Borrow.{ftrue};
 
-use avro_schema::Schema;
+use avro_resolve::avro_schema::Schema;
 use std::marker::Model;
 
 /// A schema that is kept. That it may go to another thread is proved here, once: a proof of it for

@@ -1,13 +1,13 @@
 // The schemas that a judge keeps.
 ghost use Rattle.std.specs.Prelude.{◌≡◌, ◌⊎◌, None, IfOk, IfErr, IfSome, OnErr, OnOk, is_some, map};
-ghost use Rattle.avro_schema.specs.Schema.{is_schema};
+ghost use Rattle.avro_resolve.specs.avro_schema.Schema.{is_schema};
 ghost use Rattle.reg_levels.specs.Judgement.{first_unread};
 ghost use Rattle.reg_judge.specs.Judge.{KeepsInTurn, LosesTexts, with_text, without_text, without_texts};
 ghost use Rattle.reg_judge.specs.Kept.{AreSchemas, IsUnread, texts_in};
 
 use crate::kept_schema::KeptSchema;
 use crate::source::Source;
-use avro_schema::Schema;
+use avro_resolve::avro_schema::Schema;
 use lru::LruCache;
 use reg_levels::JudgedError;
 use std::alloc::{AllocError, Global};

@@ -1,5 +1,5 @@
 // A schema with the text that it was read from.
-use avro_schema::Schema;
+use avro_resolve::avro_schema::Schema;
 use std::marker::Model;
 
 /// A schema with the text that it was read from. Contracts see the text, which determines it.
@@ -11,7 +11,7 @@ pub(crate) struct Source {
 
 impl Model for Source {
     ghost use Rattle.std.specs.Prelude.{◌≡◌, ℕ, List, Some, string_bytes};
-    ghost use Rattle.avro_schema.specs.Schema.{schema_of};
+    ghost use Rattle.avro_resolve.specs.avro_schema.Schema.{schema_of};
 
     ghost Value = { List ℕ };
 

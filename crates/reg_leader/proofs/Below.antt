@@ -1,12 +1,12 @@
 -- The laws of the crates below that lemmas here are given.
 use Rattle.std.proofs.Common.{◌≡◌, ℕ, ◌≤◌, List, Some}
-use Rattle.avro_schema.specs.Schema.{Meaning, schema_of}
-use Rattle.reg_values.specs.Value.{value_of}
-use Rattle.reg_records.specs.Written.{HasLine, IsInLimits, written_value}
-use Rattle.reg_values.specs.OfKey.{IsValueOf}
-use Rattle.reg_records.specs.declared.key.Key.{Key}
-use Rattle.reg_records.specs.declared.limits.TheConstants.{OFFSET_LIMIT}
-use Rattle.reg_records.specs.declared.value.Value.{Value}
+use Rattle.reg_rules.specs.avro_schema.Schema.{Meaning, schema_of}
+use Rattle.reg_rules.specs.reg_values.Value.{value_of}
+use Rattle.reg_rules.specs.reg_records.Written.{HasLine, IsInLimits, written_value}
+use Rattle.reg_rules.specs.reg_values.OfKey.{IsValueOf}
+use Rattle.reg_rules.specs.reg_records.declared.key.Key.{Key}
+use Rattle.reg_rules.specs.reg_records.declared.limits.TheConstants.{OFFSET_LIMIT}
+use Rattle.reg_rules.specs.reg_records.declared.value.Value.{Value}
 
 -- a written value has a line, and is read again
 abbrev pub ValuesHaveLines : Type 0

@@ -4,10 +4,10 @@ use Rattle.std.proofs.Common.{All, Option, Some, None, Ok, Err, refl, sym, ap, s
 use Rattle.std.proofs.lemmas.Bool.{leb-true}
 use Rattle.std.proofs.lemmas.List.Elements.{All-from_recursion}
 use Rattle.std.specs.List.{AllByRecursion}
-use Rattle.reg_levels.specs.Texts.{TextsMeet}
-use Rattle.reg_modes.specs.Permitted.{Permit, granted}
-use Rattle.reg_records.specs.declared.limits.TheConstants.{OFFSET_LIMIT}
-use Rattle.reg_records.specs.declared.record.Record.{Record}
+use Rattle.reg_rules.specs.reg_levels.Texts.{TextsMeet}
+use Rattle.reg_rules.specs.reg_modes.Permitted.{Permit, granted}
+use Rattle.reg_rules.specs.reg_records.declared.limits.TheConstants.{OFFSET_LIMIT}
+use Rattle.reg_rules.specs.reg_records.declared.record.Record.{Record}
 use Rattle.reg_rules.specs.Writings.{numbered, written_at}
 use Rattle.reg_rules.specs.declared.writing.Writing.{Writing}
 use Rattle.reg_leader.specs.Course.{Course, Refused, Does, IfMet, IsOutcome, ◌▸◌, where_found, if_offsets_last}

@@ -1,9 +1,9 @@
 -- What is written before a version.
 use Rattle.std.proofs.Common.{◌≡◌, ◌==◌, ℕ, true, false, cond, List, [], ◌∷◌, ◌++◌, Option, Some, None, refl}
 use Rattle.std.specs.List.{AllByRecursion}
-use Rattle.reg_entries.specs.declared.entry.Entry.{Entry}
+use Rattle.reg_rules.specs.reg_entries.declared.entry.Entry.{Entry}
 use Rattle.reg_rules.specs.declared.writing.Writing.{Writing}
-use Rattle.reg_set.specs.Records.{Records}
+use Rattle.reg_rules.specs.reg_set.Records.{Records}
 use Rattle.reg_leader.specs.Step.{mark_over, marked}
 
 module _ (P : Writing → Type 0) where

@@ -9,21 +9,21 @@ use Rattle.std.specs.FinSet.{contains, from_list, union, IsAntisymmetric, contai
 use Rattle.std.specs.List.{AllByRecursion, list_any}
 use Rattle.std.specs.Ordering.{eq_by_cmp, is_eq, is_le, on, ordering_then}
 use Rattle.std.specs.declared.cmp.Ordering.TheVariants.{Less, Equal, Greater}
-use Rattle.reg_entries.specs.TwoSchemas.{NoneIsOneTextEach}
-use Rattle.reg_entries.specs.declared.entry.Entry.{Entry}
-use Rattle.reg_fold.specs.Entries.{EntriesAreInLimits, EntriesAreOfPlaces, EntriesAreRead, entries, entry_of}
-use Rattle.reg_fold.specs.IdMark.{IdMarkIsInLimits, id_mark, id_marked_in, id_marked_of, last_id}
-use Rattle.reg_fold.specs.Opaque.{is_version}
-use Rattle.reg_values.specs.Value.{value_of}
-use Rattle.reg_records.specs.declared.key.Key.TheVariants as keys
-use Rattle.reg_records.specs.declared.record.Record.{Record}
-use Rattle.reg_records.specs.declared.value.Value.TheVariants as values
+use Rattle.reg_rules.specs.reg_entries.TwoSchemas.{NoneIsOneTextEach}
+use Rattle.reg_rules.specs.reg_entries.declared.entry.Entry.{Entry}
+use Rattle.reg_rules.specs.reg_fold.Entries.{EntriesAreInLimits, EntriesAreOfPlaces, EntriesAreRead, entries, entry_of}
+use Rattle.reg_rules.specs.reg_fold.IdMark.{IdMarkIsInLimits, id_mark, id_marked_in, id_marked_of, last_id}
+use Rattle.reg_rules.specs.reg_fold.Opaque.{is_version}
+use Rattle.reg_rules.specs.reg_values.Value.{value_of}
+use Rattle.reg_rules.specs.reg_records.declared.key.Key.TheVariants as keys
+use Rattle.reg_rules.specs.reg_records.declared.record.Record.{Record}
+use Rattle.reg_rules.specs.reg_records.declared.value.Value.TheVariants as values
 use Rattle.reg_rules.specs.Writings.{numbered, removed, written_at}
 use Rattle.reg_rules.specs.declared.writing.Writing.{Writing}
-use Rattle.reg_set.specs.Join.{LastIsGreatest, LastOfLastRecords, LastOfUnion, later}
-use Rattle.reg_set.specs.LastRecords.{last, last_records}
-use Rattle.reg_set.specs.RecordOrder.{age_cmp, record_cmp, value_cmp}
-use Rattle.reg_set.specs.Records.{Records}
+use Rattle.reg_rules.specs.reg_set.Join.{LastIsGreatest, LastOfLastRecords, LastOfUnion, later}
+use Rattle.reg_rules.specs.reg_set.LastRecords.{last, last_records}
+use Rattle.reg_rules.specs.reg_set.RecordOrder.{age_cmp, record_cmp, value_cmp}
+use Rattle.reg_rules.specs.reg_set.Records.{Records}
 use Rattle.reg_leader.specs.Harmless.{IsHarmless}
 use Rattle.reg_leader.specs.StayOpen.{last_after}
 use Rattle.reg_leader.specs.Step.{IsStep, course_of, marked}

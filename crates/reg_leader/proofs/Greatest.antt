@@ -2,14 +2,14 @@
 use Rattle.std.proofs.Common.{◌≡◌, ◌≤◌, ℕ, max, bytes_eq, List, map, Some, None, unwrap_or, refl, arith}
 use Rattle.std.proofs.lemmas.List.Elements.{All-contains_itself, All-filter, All-map, All-weaker}
 use Rattle.std.specs.List.{Contains}
-use Rattle.reg_entries.specs.Sought.{of_subject}
-use Rattle.reg_entries.specs.declared.entry.Entry.{Entry}
-use Rattle.reg_fold.specs.Entries.{EntriesAreInLimits, entries}
-use Rattle.reg_fold.specs.IdMark.{IdMarkIsInLimits, last_id}
-use Rattle.reg_fold.specs.Standing.{greatest_id, greatest_version}
-use Rattle.reg_records.specs.Written.{IsVersionOrId}
-use Rattle.reg_records.specs.declared.limits.TheConstants.{NUMBER_LIMIT}
-use Rattle.reg_set.specs.Records.{Records}
+use Rattle.reg_rules.specs.reg_entries.Sought.{of_subject}
+use Rattle.reg_rules.specs.reg_entries.declared.entry.Entry.{Entry}
+use Rattle.reg_rules.specs.reg_fold.Entries.{EntriesAreInLimits, entries}
+use Rattle.reg_rules.specs.reg_fold.IdMark.{IdMarkIsInLimits, last_id}
+use Rattle.reg_rules.specs.reg_fold.Standing.{greatest_id, greatest_version}
+use Rattle.reg_rules.specs.reg_records.Written.{IsVersionOrId}
+use Rattle.reg_rules.specs.reg_records.declared.limits.TheConstants.{NUMBER_LIMIT}
+use Rattle.reg_rules.specs.reg_set.Records.{Records}
 use Rattle.reg_leader.proofs.Chosen.{max-picks, reduce_has}
 use Rattle.reg_leader.proofs.Names.{id_up_to_last}
 

@@ -3,15 +3,15 @@ use Rattle.std.proofs.Common.{◌≡◌, ◌⊎◌, inl, inr, ℕ, suc, ◌+◌,
 use Rattle.std.proofs.Common.{map, None, All, option_and_then, refl, sym, ap, subst, ◌∙◌, arith}
 use Rattle.std.proofs.lemmas.List.Elements.{All-nil}
 use Rattle.std.specs.List.{AllByRecursion}
-use Rattle.reg_entries.specs.TwoSchemas.{NoneIsOneTextEach}
-use Rattle.reg_entries.specs.declared.entry.Entry.{Entry}
-use Rattle.reg_fold.specs.Entries.{EntriesAreInLimits, EntriesAreRead}
-use Rattle.reg_fold.specs.Opaque.{is_version}
-use Rattle.reg_records.specs.Written.{written_value}
-use Rattle.reg_records.specs.declared.record.Record.{Record}
+use Rattle.reg_rules.specs.reg_entries.TwoSchemas.{NoneIsOneTextEach}
+use Rattle.reg_rules.specs.reg_entries.declared.entry.Entry.{Entry}
+use Rattle.reg_rules.specs.reg_fold.Entries.{EntriesAreInLimits, EntriesAreRead}
+use Rattle.reg_rules.specs.reg_fold.Opaque.{is_version}
+use Rattle.reg_rules.specs.reg_records.Written.{written_value}
+use Rattle.reg_rules.specs.reg_records.declared.record.Record.{Record}
 use Rattle.reg_rules.specs.Writings.{numbered, removed, written_at}
 use Rattle.reg_rules.specs.declared.writing.Writing.{Writing}
-use Rattle.reg_set.specs.Records.{Records}
+use Rattle.reg_rules.specs.reg_set.Records.{Records}
 use Rattle.reg_leader.specs.Harmless.{IsHarmless, IsQuiet, StepsAreHarmless}
 use Rattle.reg_leader.specs.Step.{IsStep, course_of, marked}
 use Rattle.reg_leader.specs.declared.reply.Reply.{Reply}

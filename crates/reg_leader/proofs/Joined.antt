@@ -8,17 +8,17 @@ use Rattle.std.specs.FinSet.{from_list, union, IsAntisymmetric, contains-from_li
 use Rattle.std.specs.List.{list_any}
 use Rattle.std.specs.Option.{option_cmp}
 use Rattle.std.specs.Ordering.{eq_by_cmp, is_lt}
-use Rattle.reg_entries.specs.declared.entry.Entry.{Entry}
-use Rattle.reg_fold.specs.Entries.{entry_in, entry_of, normal_of}
-use Rattle.reg_values.specs.Value.{value_of}
-use Rattle.reg_records.specs.declared.key.Key.{Key}
-use Rattle.reg_records.specs.declared.record.Record.{Record}
-use Rattle.reg_records.specs.declared.value.Value.{Value}
-use Rattle.reg_records.specs.declared.value.Value.TheVariants as values
-use Rattle.reg_set.specs.Join.{LastIsGreatest, LastOfUnion, later}
-use Rattle.reg_set.specs.LastRecords.{last}
-use Rattle.reg_set.specs.RecordOrder.{age_cmp, record_cmp}
-use Rattle.reg_set.specs.Records.{Records}
+use Rattle.reg_rules.specs.reg_entries.declared.entry.Entry.{Entry}
+use Rattle.reg_rules.specs.reg_fold.Entries.{entry_in, entry_of, normal_of}
+use Rattle.reg_rules.specs.reg_values.Value.{value_of}
+use Rattle.reg_rules.specs.reg_records.declared.key.Key.{Key}
+use Rattle.reg_rules.specs.reg_records.declared.record.Record.{Record}
+use Rattle.reg_rules.specs.reg_records.declared.value.Value.{Value}
+use Rattle.reg_rules.specs.reg_records.declared.value.Value.TheVariants as values
+use Rattle.reg_rules.specs.reg_set.Join.{LastIsGreatest, LastOfUnion, later}
+use Rattle.reg_rules.specs.reg_set.LastRecords.{last}
+use Rattle.reg_rules.specs.reg_set.RecordOrder.{age_cmp, record_cmp}
+use Rattle.reg_rules.specs.reg_set.Records.{Records}
 
 -- an entry under other last records: the same, but for its soft mark
 pub record IsAlike (e g : Entry) : Type 0 where

@@ -1,9 +1,9 @@
 -- From what the parts of a command come to, to its step.
 use Rattle.std.proofs.Common.{◌≡◌, ◌⊎◌, ℕ, List, [], Result, Ok, Err, refl, sym, ap, subst, ◌∙◌, inl, inr}
-use Rattle.reg_records.specs.declared.record.Record.{Record}
-use Rattle.reg_refusals.specs.Refusal.{no_memory}
-use Rattle.reg_refusals.specs.declared.refusal.Refusal.{Refusal}
-use Rattle.reg_set.specs.Records.{Records}
+use Rattle.reg_rules.specs.reg_records.declared.record.Record.{Record}
+use Rattle.reg_rules.specs.reg_refusals.Refusal.{no_memory}
+use Rattle.reg_rules.specs.reg_refusals.declared.refusal.Refusal.{Refusal}
+use Rattle.reg_rules.specs.reg_set.Records.{Records}
 use Rattle.reg_leader.specs.Course.{Course, Refused, Does, IfMet, IsOutcome}
 use Rattle.reg_leader.specs.Deciding.{Follows}
 use Rattle.reg_leader.specs.Outcome.{Decides, Concludes}

@@ -17,3 +17,4 @@ pub mod Sorted
 pub mod Steps
 pub mod GivenIds
 pub mod Leading
+pub use Rattle.reg_rules.proofs.reg_records_proofs

@@ -6,33 +6,33 @@ use Rattle.std.proofs.lemmas.List.Elements.{All-head, All-tail, All-filter}
 use Rattle.std.proofs.lemmas.List.Elements.{All-weaker, All-contains_itself}
 use Rattle.std.specs.List.{filter}
 use Rattle.std.specs.Ordering.{nat_cmp, on, ord_max}
-use Rattle.avro_schema.specs.Schema.{Meaning, schema_of, is_schema}
-use Rattle.reg_entries.specs.Sought.{counting, counts, of_subject, has_schema, newest}
-use Rattle.reg_entries.specs.declared.entry.Entry.{Entry}
-use Rattle.reg_fold.specs.Entries.{EntriesAreInLimits, EntriesAreRead, entries}
-use Rattle.reg_fold.specs.IdMark.{IdMarkIsInLimits}
-use Rattle.reg_fold.specs.InForce.{own_level}
-use Rattle.reg_fold.specs.Standing.{greatest_version, live, version_in}
-use Rattle.reg_fold.specs.declared.version_ref.VersionRef.{VersionRef}
-use Rattle.reg_fold.specs.declared.version_ref.VersionRef.TheVariants.{Latest, Number}
-use Rattle.reg_level_names.specs.Level.{is_level, level_text}
-use Rattle.reg_level_names.specs.declared.level.Level.{Level}
-use Rattle.reg_level_names.specs.declared.level.Level.TheVariants as levels
-use Rattle.reg_modes.specs.InForce.{mode, own_mode}
-use Rattle.reg_modes.specs.Permitted.{may_register, may_write}
-use Rattle.reg_values.specs.Value.{value_of}
-use Rattle.reg_records.specs.Written.{HasLine, IsInLimits, IsVersionOrId, written_value}
-use Rattle.reg_values.specs.OfKey.{IsValueOf}
-use Rattle.reg_records.specs.declared.limits.TheConstants.{OFFSET_LIMIT}
-use Rattle.reg_records.specs.declared.value.Value.{Value}
-use Rattle.reg_refusals.specs.declared.reason.Reason.TheVariants as reasons
-use Rattle.reg_refusals.specs.declared.refusal.Refusal.TheVariants as refusals
+use Rattle.reg_rules.specs.avro_schema.Schema.{Meaning, schema_of, is_schema}
+use Rattle.reg_rules.specs.reg_entries.Sought.{counting, counts, of_subject, has_schema, newest}
+use Rattle.reg_rules.specs.reg_entries.declared.entry.Entry.{Entry}
+use Rattle.reg_rules.specs.reg_fold.Entries.{EntriesAreInLimits, EntriesAreRead, entries}
+use Rattle.reg_rules.specs.reg_fold.IdMark.{IdMarkIsInLimits}
+use Rattle.reg_rules.specs.reg_fold.InForce.{own_level}
+use Rattle.reg_rules.specs.reg_fold.Standing.{greatest_version, live, version_in}
+use Rattle.reg_rules.specs.reg_fold.declared.version_ref.VersionRef.{VersionRef}
+use Rattle.reg_rules.specs.reg_fold.declared.version_ref.VersionRef.TheVariants.{Latest, Number}
+use Rattle.reg_rules.specs.reg_level_names.Level.{is_level, level_text}
+use Rattle.reg_rules.specs.reg_level_names.declared.level.Level.{Level}
+use Rattle.reg_rules.specs.reg_level_names.declared.level.Level.TheVariants as levels
+use Rattle.reg_rules.specs.reg_modes.InForce.{mode, own_mode}
+use Rattle.reg_rules.specs.reg_modes.Permitted.{may_register, may_write}
+use Rattle.reg_rules.specs.reg_values.Value.{value_of}
+use Rattle.reg_rules.specs.reg_records.Written.{HasLine, IsInLimits, IsVersionOrId, written_value}
+use Rattle.reg_rules.specs.reg_values.OfKey.{IsValueOf}
+use Rattle.reg_rules.specs.reg_records.declared.limits.TheConstants.{OFFSET_LIMIT}
+use Rattle.reg_rules.specs.reg_records.declared.value.Value.{Value}
+use Rattle.reg_rules.specs.reg_refusals.declared.reason.Reason.TheVariants as reasons
+use Rattle.reg_rules.specs.reg_refusals.declared.refusal.Refusal.TheVariants as refusals
 use Rattle.reg_rules.specs.Standing.{id_for, is_of, next_version, standing, version_meant}
 use Rattle.reg_rules.specs.Tests as test
 use Rattle.reg_rules.specs.Tests.{refuse_if, refuse_unless}
 use Rattle.reg_rules.specs.Writings.{numbered, removed, written_at}
 use Rattle.reg_rules.specs.declared.writing.Writing.{Writing}
-use Rattle.reg_set.specs.Records.{Records}
+use Rattle.reg_rules.specs.reg_set.Records.{Records}
 use Rattle.reg_leader.specs.Course.{Course, ◌▸◌}
 use Rattle.reg_leader.specs.OneStep.{BatchesAreRead, BatchesHaveLines, IsReadable}
 use Rattle.reg_leader.specs.Step.{IsStep, course_of, delete_all, delete_entry, import_as, mark_over, marked, writes}

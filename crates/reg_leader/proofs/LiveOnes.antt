@@ -4,9 +4,9 @@ use Rattle.std.proofs.Common.{false, List, [], ◌∷◌, length, map, Some, ref
 use Rattle.std.proofs.Math.Dec.{eqb-suc-zero}
 use Rattle.std.proofs.lemmas.List.{length-map}
 use Rattle.std.specs.List.{filter, list_any}
-use Rattle.reg_entries.specs.Sought.{counting, counts, has_live, live_of, of_subject}
-use Rattle.reg_entries.specs.declared.entry.Entry.{Entry}
-use Rattle.reg_refusals.specs.declared.refusal.Refusal.{Refusal}
+use Rattle.reg_rules.specs.reg_entries.Sought.{counting, counts, has_live, live_of, of_subject}
+use Rattle.reg_rules.specs.reg_entries.declared.entry.Entry.{Entry}
+use Rattle.reg_rules.specs.reg_refusals.declared.refusal.Refusal.{Refusal}
 use Rattle.reg_rules.specs.Tests.{refuse_if, refuse_unless}
 use Rattle.reg_leader.specs.Course.{Course, Refused, ◌▸◌}
 

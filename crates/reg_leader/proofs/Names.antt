@@ -7,19 +7,19 @@ use Rattle.std.proofs.lemmas.Slice.Eq.{bytes_eq-Decides}
 use Rattle.std.specs.List.{filter}
 use Rattle.std.specs.Option.{option_map_or}
 use Rattle.std.specs.Ordering.{nat_cmp, on, ord_max}
-use Rattle.reg_entries.specs.EntryOrder.{naming_cmp}
-use Rattle.reg_entries.specs.Sought.{counting, counts, has_schema}
-use Rattle.reg_entries.specs.TwoSchemas.{NoneIsOneTextEach}
-use Rattle.reg_entries.specs.declared.entry.Entry.{Entry}
-use Rattle.reg_fold.specs.Closed.{id_of, is_closed, two_schemas}
-use Rattle.reg_fold.specs.Entries.{entries}
-use Rattle.reg_fold.specs.IdMark.{id_mark, last_id}
-use Rattle.reg_fold.specs.Opaque.{opaque}
-use Rattle.reg_fold.specs.Standing.{greatest_id, named}
-use Rattle.reg_fold.specs.declared.version_ref.VersionRef.{VersionRef}
-use Rattle.reg_fold.specs.declared.version_ref.VersionRef.TheVariants.{Latest, Number}
+use Rattle.reg_rules.specs.reg_entries.EntryOrder.{naming_cmp}
+use Rattle.reg_rules.specs.reg_entries.Sought.{counting, counts, has_schema}
+use Rattle.reg_rules.specs.reg_entries.TwoSchemas.{NoneIsOneTextEach}
+use Rattle.reg_rules.specs.reg_entries.declared.entry.Entry.{Entry}
+use Rattle.reg_rules.specs.reg_fold.Closed.{id_of, is_closed, two_schemas}
+use Rattle.reg_rules.specs.reg_fold.Entries.{entries}
+use Rattle.reg_rules.specs.reg_fold.IdMark.{id_mark, last_id}
+use Rattle.reg_rules.specs.reg_fold.Opaque.{opaque}
+use Rattle.reg_rules.specs.reg_fold.Standing.{greatest_id, named}
+use Rattle.reg_rules.specs.reg_fold.declared.version_ref.VersionRef.{VersionRef}
+use Rattle.reg_rules.specs.reg_fold.declared.version_ref.VersionRef.TheVariants.{Latest, Number}
 use Rattle.reg_rules.specs.Standing.{id_for, names_another, version_meant}
-use Rattle.reg_set.specs.Records.{Records}
+use Rattle.reg_rules.specs.reg_set.Records.{Records}
 use Rattle.reg_leader.specs.StayOpen.{IdsNameOneSchema}
 use Rattle.reg_leader.proofs.Chosen.{find_has, min-picks, none_passes, nothing_there, ord_max-picks, reduce_has, up_to_greatest_of}
 

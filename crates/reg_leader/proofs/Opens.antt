@@ -6,23 +6,23 @@ use Rattle.std.proofs.lemmas.List.Elements.{All-push, All-weaker}
 use Rattle.std.specs.Cmp.{IsTotalOrder}
 use Rattle.std.specs.FinSet.{from_list, union, IsAntisymmetric}
 use Rattle.std.specs.Option.{option_map_or}
-use Rattle.avro_schema.specs.Schema.{Meaning}
-use Rattle.reg_entries.specs.TwoSchemas.{NoneIsOneTextEach}
-use Rattle.reg_entries.specs.declared.entry.Entry.{Entry}
-use Rattle.reg_fold.specs.Closed.{is_closed}
-use Rattle.reg_fold.specs.Entries.{EntriesAreOfPlaces, entries, entry_in, entry_of, normal_of}
-use Rattle.reg_fold.specs.Opaque.{NoneIsNoOpaqueLast, is_opaque, is_version}
-use Rattle.reg_values.specs.Value.{value_of, value_of_text}
-use Rattle.reg_records.specs.Written.{written_value}
-use Rattle.reg_records.specs.declared.key.Key.{Key}
-use Rattle.reg_records.specs.declared.key.Key.TheVariants as keys
-use Rattle.reg_records.specs.declared.record.Record.{Record}
-use Rattle.reg_records.specs.declared.value.Value.{Value}
-use Rattle.reg_records.specs.declared.value.Value.TheVariants as values
-use Rattle.reg_set.specs.Join.{LastIsGreatest, LastOfUnion}
-use Rattle.reg_set.specs.LastRecords.{last, last_records}
-use Rattle.reg_set.specs.RecordOrder.{record_cmp}
-use Rattle.reg_set.specs.Records.{Records}
+use Rattle.reg_rules.specs.avro_schema.Schema.{Meaning}
+use Rattle.reg_rules.specs.reg_entries.TwoSchemas.{NoneIsOneTextEach}
+use Rattle.reg_rules.specs.reg_entries.declared.entry.Entry.{Entry}
+use Rattle.reg_rules.specs.reg_fold.Closed.{is_closed}
+use Rattle.reg_rules.specs.reg_fold.Entries.{EntriesAreOfPlaces, entries, entry_in, entry_of, normal_of}
+use Rattle.reg_rules.specs.reg_fold.Opaque.{NoneIsNoOpaqueLast, is_opaque, is_version}
+use Rattle.reg_rules.specs.reg_values.Value.{value_of, value_of_text}
+use Rattle.reg_rules.specs.reg_records.Written.{written_value}
+use Rattle.reg_rules.specs.reg_records.declared.key.Key.{Key}
+use Rattle.reg_rules.specs.reg_records.declared.key.Key.TheVariants as keys
+use Rattle.reg_rules.specs.reg_records.declared.record.Record.{Record}
+use Rattle.reg_rules.specs.reg_records.declared.value.Value.{Value}
+use Rattle.reg_rules.specs.reg_records.declared.value.Value.TheVariants as values
+use Rattle.reg_rules.specs.reg_set.Join.{LastIsGreatest, LastOfUnion}
+use Rattle.reg_rules.specs.reg_set.LastRecords.{last, last_records}
+use Rattle.reg_rules.specs.reg_set.RecordOrder.{record_cmp}
+use Rattle.reg_rules.specs.reg_set.Records.{Records}
 use Rattle.reg_leader.specs.Harmless.{IsHarmless, IsOneVersion, IsQuiet}
 use Rattle.reg_leader.specs.StayOpen.{IdsNameOneSchema, last_after}
 use Rattle.reg_leader.proofs.Below.{ValuesReadBack}

@@ -1,17 +1,17 @@
 -- What a test that passes tells.
 use Rattle.std.proofs.Common.{◌≡◌, ℕ, Bool, true, false, ◌&&◌, ◌||◌, nat_le, is_some, refl}
 use Rattle.std.proofs.lemmas.Bool.{false≢true, leb-true}
-use Rattle.reg_fold.specs.Closed.{is_closed, two_schemas}
-use Rattle.reg_fold.specs.Opaque.{opaque}
-use Rattle.reg_modes.specs.Permitted.{granted}
-use Rattle.reg_records.specs.Written.{IsVersionOrId}
-use Rattle.reg_records.specs.declared.limits.TheConstants.{NUMBER_LIMIT}
-use Rattle.reg_refusals.specs.declared.reason.StoreFault.TheVariants as faults
-use Rattle.reg_refusals.specs.declared.refusal.Refusal.{Refusal}
-use Rattle.reg_refusals.specs.declared.refusal.Refusal.TheVariants as refusals
+use Rattle.reg_rules.specs.reg_fold.Closed.{is_closed, two_schemas}
+use Rattle.reg_rules.specs.reg_fold.Opaque.{opaque}
+use Rattle.reg_rules.specs.reg_modes.Permitted.{granted}
+use Rattle.reg_rules.specs.reg_records.Written.{IsVersionOrId}
+use Rattle.reg_rules.specs.reg_records.declared.limits.TheConstants.{NUMBER_LIMIT}
+use Rattle.reg_rules.specs.reg_refusals.declared.reason.StoreFault.TheVariants as faults
+use Rattle.reg_rules.specs.reg_refusals.declared.refusal.Refusal.{Refusal}
+use Rattle.reg_rules.specs.reg_refusals.declared.refusal.Refusal.TheVariants as refusals
 use Rattle.reg_rules.specs.Tests as test
 use Rattle.reg_rules.specs.Tests.{refuse_if, refuse_unless}
-use Rattle.reg_set.specs.Records.{Records}
+use Rattle.reg_rules.specs.reg_set.Records.{Records}
 
 pub unless_passed : (b : Bool) (refusal : Refusal) → refuse_unless b refusal ≡ granted → b ≡ true
 unless_passed true refusal e = refl

@@ -5,13 +5,13 @@ use Rattle.std.proofs.lemmas.Bool.{false≢true}
 use Rattle.std.proofs.lemmas.List.Elements.{All-contains, All-filter, filter_passes}
 use Rattle.std.proofs.lemmas.Slice.Eq.{bytes_eq-Decides}
 use Rattle.std.specs.Option.{option_map_or}
-use Rattle.reg_entries.specs.Sought.{counting, counts, of_subject}
-use Rattle.reg_entries.specs.declared.entry.Entry.{Entry}
-use Rattle.reg_fold.specs.Entries.{entries}
-use Rattle.reg_fold.specs.Standing.{greatest_version, version_in}
-use Rattle.reg_fold.specs.declared.version_ref.VersionRef.TheVariants.{Number}
+use Rattle.reg_rules.specs.reg_entries.Sought.{counting, counts, of_subject}
+use Rattle.reg_rules.specs.reg_entries.declared.entry.Entry.{Entry}
+use Rattle.reg_rules.specs.reg_fold.Entries.{entries}
+use Rattle.reg_rules.specs.reg_fold.Standing.{greatest_version, version_in}
+use Rattle.reg_rules.specs.reg_fold.declared.version_ref.VersionRef.TheVariants.{Number}
 use Rattle.reg_rules.specs.Standing.{next_version}
-use Rattle.reg_set.specs.Records.{Records}
+use Rattle.reg_rules.specs.reg_set.Records.{Records}
 use Rattle.reg_leader.proofs.Chosen.{find_has, find_none, find_passes, from_filter, nothing_there, up_to_greatest_of}
 
 module _ (rs : Records) where

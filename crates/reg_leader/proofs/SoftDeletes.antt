@@ -3,27 +3,27 @@ use Rattle.std.proofs.Common.{◌≡◌, ◌⊎◌, inl, inr, ℕ, Bool, true, f
 use Rattle.std.proofs.Common.{Option, Some, None, All, refl, sym, ap, subst, ◌∙◌}
 use Rattle.std.proofs.lemmas.List.Elements.{All-nil}
 use Rattle.std.specs.List.{AllByRecursion, filter}
-use Rattle.avro_schema.specs.Schema.{schema_of}
-use Rattle.reg_entries.specs.declared.entry.Entry.{Entry}
-use Rattle.reg_fold.specs.Entries.{EntriesAreInLimits, entries}
-use Rattle.reg_fold.specs.InForce.{own_level}
-use Rattle.reg_fold.specs.Standing.{greatest_version, live, version_in}
-use Rattle.reg_fold.specs.declared.version_ref.VersionRef.TheVariants.{Number}
-use Rattle.reg_modes.specs.InForce.{mode, own_mode}
-use Rattle.reg_modes.specs.Permitted.{may_register, may_write}
-use Rattle.reg_records.specs.declared.record.Record.{Record}
-use Rattle.reg_refusals.specs.declared.reason.Reason.TheVariants as reasons
-use Rattle.reg_refusals.specs.declared.refusal.Refusal.TheVariants as refusals
+use Rattle.reg_rules.specs.avro_schema.Schema.{schema_of}
+use Rattle.reg_rules.specs.reg_entries.declared.entry.Entry.{Entry}
+use Rattle.reg_rules.specs.reg_fold.Entries.{EntriesAreInLimits, entries}
+use Rattle.reg_rules.specs.reg_fold.InForce.{own_level}
+use Rattle.reg_rules.specs.reg_fold.Standing.{greatest_version, live, version_in}
+use Rattle.reg_rules.specs.reg_fold.declared.version_ref.VersionRef.TheVariants.{Number}
+use Rattle.reg_rules.specs.reg_modes.InForce.{mode, own_mode}
+use Rattle.reg_rules.specs.reg_modes.Permitted.{may_register, may_write}
+use Rattle.reg_rules.specs.reg_records.declared.record.Record.{Record}
+use Rattle.reg_rules.specs.reg_refusals.declared.reason.Reason.TheVariants as reasons
+use Rattle.reg_rules.specs.reg_refusals.declared.refusal.Refusal.TheVariants as refusals
 use Rattle.reg_rules.specs.Standing.{id_for, is_of, next_version, standing, version_meant}
-use Rattle.reg_entries.specs.Sought.{has_schema, newest}
+use Rattle.reg_rules.specs.reg_entries.Sought.{has_schema, newest}
 use Rattle.reg_rules.specs.Tests as test
 use Rattle.reg_rules.specs.Tests.{refuse_if, refuse_unless}
 use Rattle.reg_rules.specs.Writings.{deleted_up_to, numbered, removed}
 use Rattle.reg_rules.specs.declared.writing.Writing.{Writing}
-use Rattle.reg_set.specs.Records.{Records}
+use Rattle.reg_rules.specs.reg_set.Records.{Records}
 use Rattle.reg_leader.specs.Course.{Course}
 use Rattle.reg_leader.specs.Deletes.{DeletesNameGreatest}
-use Rattle.reg_records.specs.Key.{is_delete}
+use Rattle.reg_rules.specs.reg_records.Key.{is_delete}
 use Rattle.reg_leader.specs.Step.{IsStep, course_of, delete_all, delete_entry, import_as, mark_over, writes}
 use Rattle.reg_leader.specs.declared.command.Command.{Command}
 use Rattle.reg_leader.specs.declared.command.Command.TheVariants as commands

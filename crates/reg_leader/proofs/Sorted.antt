@@ -3,31 +3,31 @@ use Rattle.std.proofs.Common.{◌≡◌, ◌⊎◌, inl, inr, ℕ, suc, ◌<◌,
 use Rattle.std.proofs.Common.{Option, Some, None, is_some, unwrap_or, Contains, eqb-true, arith, option_map, refl, sym, ◌∙◌}
 use Rattle.std.proofs.lemmas.Bool.{false≢true, ltb-true, or_cases}
 use Rattle.std.specs.List.{AllByRecursion, filter}
-use Rattle.avro_schema.specs.Schema.{Meaning, schema_of}
-use Rattle.reg_entries.specs.TwoSchemas.{NoneIsOneTextEach}
-use Rattle.reg_entries.specs.declared.entry.Entry.{Entry}
-use Rattle.reg_fold.specs.Closed.{id_of, is_closed}
-use Rattle.reg_fold.specs.Entries.{EntriesAreInLimits, EntriesAreRead, entries}
-use Rattle.reg_fold.specs.IdMark.{id_mark, last_id}
-use Rattle.reg_fold.specs.InForce.{own_level}
-use Rattle.reg_fold.specs.Opaque.{is_version}
-use Rattle.reg_fold.specs.Standing.{greatest_version, live, named, version_in}
-use Rattle.reg_fold.specs.declared.version_ref.VersionRef.{VersionRef}
-use Rattle.reg_fold.specs.declared.version_ref.VersionRef.TheVariants.{Number}
-use Rattle.reg_modes.specs.InForce.{mode, own_mode}
-use Rattle.reg_modes.specs.Permitted.{granted, may_register, may_write}
-use Rattle.reg_records.specs.Written.{IsVersionOrId}
-use Rattle.reg_records.specs.declared.key.Key.TheVariants as keys
-use Rattle.reg_records.specs.declared.value.Value.TheVariants as values
-use Rattle.reg_refusals.specs.declared.reason.Reason.TheVariants as reasons
-use Rattle.reg_refusals.specs.declared.refusal.Refusal.TheVariants as refusals
+use Rattle.reg_rules.specs.avro_schema.Schema.{Meaning, schema_of}
+use Rattle.reg_rules.specs.reg_entries.TwoSchemas.{NoneIsOneTextEach}
+use Rattle.reg_rules.specs.reg_entries.declared.entry.Entry.{Entry}
+use Rattle.reg_rules.specs.reg_fold.Closed.{id_of, is_closed}
+use Rattle.reg_rules.specs.reg_fold.Entries.{EntriesAreInLimits, EntriesAreRead, entries}
+use Rattle.reg_rules.specs.reg_fold.IdMark.{id_mark, last_id}
+use Rattle.reg_rules.specs.reg_fold.InForce.{own_level}
+use Rattle.reg_rules.specs.reg_fold.Opaque.{is_version}
+use Rattle.reg_rules.specs.reg_fold.Standing.{greatest_version, live, named, version_in}
+use Rattle.reg_rules.specs.reg_fold.declared.version_ref.VersionRef.{VersionRef}
+use Rattle.reg_rules.specs.reg_fold.declared.version_ref.VersionRef.TheVariants.{Number}
+use Rattle.reg_rules.specs.reg_modes.InForce.{mode, own_mode}
+use Rattle.reg_rules.specs.reg_modes.Permitted.{granted, may_register, may_write}
+use Rattle.reg_rules.specs.reg_records.Written.{IsVersionOrId}
+use Rattle.reg_rules.specs.reg_records.declared.key.Key.TheVariants as keys
+use Rattle.reg_rules.specs.reg_records.declared.value.Value.TheVariants as values
+use Rattle.reg_rules.specs.reg_refusals.declared.reason.Reason.TheVariants as reasons
+use Rattle.reg_rules.specs.reg_refusals.declared.refusal.Refusal.TheVariants as refusals
 use Rattle.reg_rules.specs.Standing.{id_for, is_of, names_another, next_version, standing, version_meant}
-use Rattle.reg_entries.specs.Sought.{has_schema, newest}
+use Rattle.reg_rules.specs.reg_entries.Sought.{has_schema, newest}
 use Rattle.reg_rules.specs.Tests as test
 use Rattle.reg_rules.specs.Tests.{refuse_if, refuse_unless}
 use Rattle.reg_rules.specs.Writings.{removed}
 use Rattle.reg_rules.specs.declared.writing.Writing.{Writing}
-use Rattle.reg_set.specs.Records.{Records}
+use Rattle.reg_rules.specs.reg_set.Records.{Records}
 use Rattle.reg_leader.specs.Course.{Course}
 use Rattle.reg_leader.specs.Step.{course_of, delete_all, delete_entry, delete_subject, delete_version}
 use Rattle.reg_leader.specs.Step.{import_as, import_register, mark_over, marked, register, writes}

@@ -2,23 +2,23 @@
 use Rattle.std.proofs.Common.{◌≡◌, ◌⊎◌, ℕ, List, [], ◌∷◌, Some, None, All, refl, sym, ap, ◌∙◌, inl, inr}
 use Rattle.std.specs.List.{filter}
 use Rattle.std.proofs.lemmas.List.Elements.{All-head, All-tail}
-use Rattle.avro_schema.specs.Schema.{Meaning, schema_of}
-use Rattle.reg_fold.specs.InForce.{level}
-use Rattle.reg_fold.specs.Standing.{live}
-use Rattle.reg_level_names.specs.declared.level.Level.{Level}
-use Rattle.reg_levels.specs.LevelVerdict.{HaveOneLevelVerdict, IsCompatible, IsVerdictOn, passed}
-use Rattle.reg_levels.specs.Message.{message_of}
-use Rattle.reg_levels.specs.RequiredPairs.{Required, required_pairs}
-use Rattle.reg_levels.specs.Texts.{TextsMeet, VersionText, nodes_in, versions_in}
-use Rattle.reg_modes.specs.InForce.{mode}
-use Rattle.reg_modes.specs.Permitted.{may_register}
-use Rattle.reg_records.specs.declared.record.Record.{Record}
-use Rattle.reg_set.specs.Records.{Records}
+use Rattle.reg_rules.specs.avro_schema.Schema.{Meaning, schema_of}
+use Rattle.reg_rules.specs.reg_fold.InForce.{level}
+use Rattle.reg_rules.specs.reg_fold.Standing.{live}
+use Rattle.reg_rules.specs.reg_level_names.declared.level.Level.{Level}
+use Rattle.reg_rules.specs.reg_levels.LevelVerdict.{HaveOneLevelVerdict, IsCompatible, IsVerdictOn, passed}
+use Rattle.reg_rules.specs.reg_levels.Message.{message_of}
+use Rattle.reg_rules.specs.reg_levels.RequiredPairs.{Required, required_pairs}
+use Rattle.reg_rules.specs.reg_levels.Texts.{TextsMeet, VersionText, nodes_in, versions_in}
+use Rattle.reg_rules.specs.reg_modes.InForce.{mode}
+use Rattle.reg_rules.specs.reg_modes.Permitted.{may_register}
+use Rattle.reg_rules.specs.reg_records.declared.record.Record.{Record}
+use Rattle.reg_rules.specs.reg_set.Records.{Records}
 use Rattle.reg_rules.specs.Report.{IsClash}
 use Rattle.reg_leader.specs.Course.{Course, Refused, Does, IfMet, IsOutcome, incompatible}
 use Rattle.reg_leader.specs.OneStep.{BatchesEndByTheLimit, BatchesGoOn, RegistersWhatMeets, StepsAreSingle, StepsMeetLevels}
 use Rattle.reg_rules.specs.Standing.{id_for, next_version}
-use Rattle.reg_entries.specs.Sought.{has_schema, newest, texts_of}
+use Rattle.reg_rules.specs.reg_entries.Sought.{has_schema, newest, texts_of}
 use Rattle.reg_leader.specs.Step.{IsStep, course_of, register, writes}
 use Rattle.reg_rules.specs.Tests as test
 use Rattle.reg_rules.specs.Writings.{numbered, version_of}

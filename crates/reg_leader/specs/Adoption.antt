@@ -1,14 +1,14 @@
 -- Which sets of records a topic can begin with, and what it begins with beside them.
 -- Below, rs are the last records and next is the next offset.
 use Rattle.std.specs.Prelude.{◌≡◌, ◌<◌, ◌≤◌, ⊤, ℕ, List, [], ◌∷◌, true, false, Some, None, codes, unwrap_or, if◌then◌else◌}
-use Rattle.reg_fold.specs.Closed.{is_closed, two_schemas}
-use Rattle.reg_fold.specs.IdMark.{needs_mark}
-use Rattle.reg_fold.specs.Opaque.{opaque}
-use Rattle.reg_fold.specs.Standing.{greatest_id}
-use Rattle.reg_records.specs.declared.limits.TheConstants.{OFFSET_LIMIT}
-use Rattle.reg_records.specs.declared.record.Record.{Record}
+use Rattle.reg_rules.specs.reg_fold.Closed.{is_closed, two_schemas}
+use Rattle.reg_rules.specs.reg_fold.IdMark.{needs_mark}
+use Rattle.reg_rules.specs.reg_fold.Opaque.{opaque}
+use Rattle.reg_rules.specs.reg_fold.Standing.{greatest_id}
+use Rattle.reg_rules.specs.reg_records.declared.limits.TheConstants.{OFFSET_LIMIT}
+use Rattle.reg_rules.specs.reg_records.declared.record.Record.{Record}
 use Rattle.reg_rules.specs.Writings.{id_marked, numbered}
-use Rattle.reg_set.specs.Records.{Records}
+use Rattle.reg_rules.specs.reg_set.Records.{Records}
 use Rattle.reg_leader.specs.declared.adoption.AdoptError.{AdoptError}
 use Rattle.reg_leader.specs.declared.adoption.AdoptError.TheVariants.{Opaque, TwoSchemas, NumbersUsedUp, OutOfMemory}
 

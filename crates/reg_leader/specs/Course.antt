@@ -1,13 +1,13 @@
 -- What a command comes to: the refusal of the first test that it fails, or a reply and what is written.
 use Rattle.std.specs.Prelude.{◌≡◌, ◌⊎◌, ℕ, suc, ◌+◌, ◌++◌, List, [], Bool, true, false, nat_le, length, codes, Option, Some, None, Ok, Err}
-use Rattle.reg_level_names.specs.declared.level.Level.{Level}
-use Rattle.reg_levels.specs.Texts.{VersionText, TextsMeet}
-use Rattle.reg_modes.specs.Permitted.{Permit}
-use Rattle.reg_records.specs.declared.limits.TheConstants.{OFFSET_LIMIT}
-use Rattle.reg_records.specs.declared.record.Record.{Record}
-use Rattle.reg_refusals.specs.declared.reason.StoreFault.TheVariants as faults
-use Rattle.reg_refusals.specs.declared.refusal.Refusal.{Refusal}
-use Rattle.reg_refusals.specs.declared.refusal.Refusal.TheVariants as refusals
+use Rattle.reg_rules.specs.reg_level_names.declared.level.Level.{Level}
+use Rattle.reg_rules.specs.reg_levels.Texts.{VersionText, TextsMeet}
+use Rattle.reg_rules.specs.reg_modes.Permitted.{Permit}
+use Rattle.reg_rules.specs.reg_records.declared.limits.TheConstants.{OFFSET_LIMIT}
+use Rattle.reg_rules.specs.reg_records.declared.record.Record.{Record}
+use Rattle.reg_rules.specs.reg_refusals.declared.reason.StoreFault.TheVariants as faults
+use Rattle.reg_rules.specs.reg_refusals.declared.refusal.Refusal.{Refusal}
+use Rattle.reg_rules.specs.reg_refusals.declared.refusal.Refusal.TheVariants as refusals
 use Rattle.reg_leader.specs.declared.reply.Reply.{Reply}
 use Rattle.reg_leader.specs.declared.reply.Reply.TheVariants as replies
 use Rattle.reg_rules.specs.Report.{IsClash}

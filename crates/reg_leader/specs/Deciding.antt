@@ -1,7 +1,7 @@
 -- Private: what the functions behind a decision come to, a part of a command's course each. Any of them may be refused memory.
 use Rattle.std.specs.Prelude.{◌≡◌, ◌⊎◌, Result, Ok, Err}
-use Rattle.reg_refusals.specs.Refusal.{no_memory}
-use Rattle.reg_refusals.specs.declared.refusal.Refusal.{Refusal}
+use Rattle.reg_rules.specs.reg_refusals.Refusal.{no_memory}
+use Rattle.reg_rules.specs.reg_refusals.declared.refusal.Refusal.{Refusal}
 use Rattle.reg_leader.specs.Course.{Course, Refused, Does}
 use Rattle.reg_leader.specs.declared.deed.Deed.{Deed}
 

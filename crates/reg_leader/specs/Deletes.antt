@@ -1,12 +1,12 @@
 -- Soft deletes of subjects in batches. Below, rs are the last records before the batch and n is the next offset.
 use Rattle.std.specs.Prelude.{◌≡◌, ◌⊎◌, ℕ, List, [], ◌∷◌, false, Some, All}
-use Rattle.reg_fold.specs.Standing.{greatest_version}
-use Rattle.reg_records.specs.Written.{IsVersionOrId, written_value}
-use Rattle.reg_records.specs.Key.{is_delete}
-use Rattle.reg_records.specs.declared.key.Key.TheVariants as keys
-use Rattle.reg_records.specs.declared.record.Record.{Record}
-use Rattle.reg_records.specs.declared.value.Value.TheVariants as values
-use Rattle.reg_set.specs.Records.{Records}
+use Rattle.reg_rules.specs.reg_fold.Standing.{greatest_version}
+use Rattle.reg_rules.specs.reg_records.Written.{IsVersionOrId, written_value}
+use Rattle.reg_rules.specs.reg_records.Key.{is_delete}
+use Rattle.reg_rules.specs.reg_records.declared.key.Key.TheVariants as keys
+use Rattle.reg_rules.specs.reg_records.declared.record.Record.{Record}
+use Rattle.reg_rules.specs.reg_records.declared.value.Value.TheVariants as values
+use Rattle.reg_rules.specs.reg_set.Records.{Records}
 use Rattle.reg_leader.specs.Step.{IsStep}
 use Rattle.reg_leader.specs.declared.command.Command.{Command}
 use Rattle.reg_leader.specs.declared.reply.Reply.{Reply}

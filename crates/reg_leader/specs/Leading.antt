@@ -1,18 +1,18 @@
 -- Private: what the functions behind a decision come to for a command whose level may be checked. Any of them may be refused memory.
 use Rattle.std.specs.Prelude.{◌≡◌, ◌⊎◌, ℕ, List, [], false, Some, Result, Ok, Err}
 use Rattle.std.specs.List.{filter}
-use Rattle.reg_fold.specs.InForce.{level}
-use Rattle.reg_fold.specs.Standing.{live}
-use Rattle.reg_levels.specs.Texts.{TextsMeet}
-use Rattle.reg_modes.specs.InForce.{mode}
-use Rattle.reg_modes.specs.Permitted.{may_register}
-use Rattle.reg_refusals.specs.Refusal.{no_memory}
-use Rattle.reg_refusals.specs.declared.refusal.Refusal.{Refusal}
-use Rattle.reg_set.specs.Records.{Records}
+use Rattle.reg_rules.specs.reg_fold.InForce.{level}
+use Rattle.reg_rules.specs.reg_fold.Standing.{live}
+use Rattle.reg_rules.specs.reg_levels.Texts.{TextsMeet}
+use Rattle.reg_rules.specs.reg_modes.InForce.{mode}
+use Rattle.reg_rules.specs.reg_modes.Permitted.{may_register}
+use Rattle.reg_rules.specs.reg_refusals.Refusal.{no_memory}
+use Rattle.reg_rules.specs.reg_refusals.declared.refusal.Refusal.{Refusal}
+use Rattle.reg_rules.specs.reg_set.Records.{Records}
 use Rattle.reg_rules.specs.Report.{IsClash}
 use Rattle.reg_leader.specs.Course.{Course, Refused, Does, IfMet, incompatible, ◌▸◌, where_found}
 use Rattle.reg_rules.specs.Standing.{id_for, next_version}
-use Rattle.reg_entries.specs.Sought.{has_schema, newest, texts_of}
+use Rattle.reg_rules.specs.reg_entries.Sought.{has_schema, newest, texts_of}
 use Rattle.reg_leader.specs.Step.{where_read, writes}
 use Rattle.reg_rules.specs.Tests as test
 use Rattle.reg_leader.specs.declared.deed.Deed.{Deed}

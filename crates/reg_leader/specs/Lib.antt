@@ -9,3 +9,14 @@ pub mod StayOpen
 pub mod Step
 pub mod GivenIds
 pub mod Leading
+pub use Rattle.reg_rules.specs.avro_schema
+pub use Rattle.reg_rules.specs.reg_entries
+pub use Rattle.reg_rules.specs.reg_fold
+pub use Rattle.reg_rules.specs.reg_level_names
+pub use Rattle.reg_rules.specs.reg_levels
+pub use Rattle.reg_rules.specs.reg_modes
+pub use Rattle.reg_rules.specs.reg_records
+pub use Rattle.reg_rules.specs.reg_refusals
+pub use Rattle.reg_rules.specs as reg_rules
+pub use Rattle.reg_rules.specs.reg_set
+pub use Rattle.reg_rules.specs.reg_values

@@ -1,18 +1,18 @@
 -- What is true of every single step. Below, rs are the last records and n is the next offset.
 use Rattle.std.specs.Prelude.{◌≡◌, ◌⊎◌, ℕ, suc, ◌+◌, ◌≤◌, length, List, [], ◌∷◌, All, Bool, true, false, ◌&&◌, ◌==◌, Some, None, is_some}
-use Rattle.avro_schema.specs.Schema.{Meaning, schema_of}
-use Rattle.reg_fold.specs.InForce.{level}
-use Rattle.reg_fold.specs.Standing.{live}
-use Rattle.reg_levels.specs.Texts.{TextsMeet}
-use Rattle.reg_values.specs.Value.{value_of}
-use Rattle.reg_records.specs.Written.{HasLine, written_value}
-use Rattle.reg_records.specs.declared.key.Key.TheVariants as keys
-use Rattle.reg_records.specs.declared.limits.TheConstants.{OFFSET_LIMIT}
-use Rattle.reg_records.specs.declared.record.Record.{Record}
-use Rattle.reg_records.specs.declared.value.Value.TheVariants as values
-use Rattle.reg_refusals.specs.declared.refusal.Refusal.{Refusal}
-use Rattle.reg_set.specs.Records.{Records}
-use Rattle.reg_entries.specs.Sought.{texts_of}
+use Rattle.reg_rules.specs.avro_schema.Schema.{Meaning, schema_of}
+use Rattle.reg_rules.specs.reg_fold.InForce.{level}
+use Rattle.reg_rules.specs.reg_fold.Standing.{live}
+use Rattle.reg_rules.specs.reg_levels.Texts.{TextsMeet}
+use Rattle.reg_rules.specs.reg_values.Value.{value_of}
+use Rattle.reg_rules.specs.reg_records.Written.{HasLine, written_value}
+use Rattle.reg_rules.specs.reg_records.declared.key.Key.TheVariants as keys
+use Rattle.reg_rules.specs.reg_records.declared.limits.TheConstants.{OFFSET_LIMIT}
+use Rattle.reg_rules.specs.reg_records.declared.record.Record.{Record}
+use Rattle.reg_rules.specs.reg_records.declared.value.Value.TheVariants as values
+use Rattle.reg_rules.specs.reg_refusals.declared.refusal.Refusal.{Refusal}
+use Rattle.reg_rules.specs.reg_set.Records.{Records}
+use Rattle.reg_rules.specs.reg_entries.Sought.{texts_of}
 use Rattle.reg_leader.specs.Step.{IsStep}
 use Rattle.reg_leader.specs.declared.command.Command.{Command}
 use Rattle.reg_leader.specs.declared.command.Command.TheVariants as commands

@@ -1,12 +1,12 @@
 -- What a decision comes to. It may be refused memory.
 use Rattle.std.specs.Prelude.{◌≡◌, ◌⊎◌, ℕ, [], Result, Ok, Err}
-use Rattle.reg_set.specs.Records.{Records}
+use Rattle.reg_rules.specs.reg_set.Records.{Records}
 use Rattle.reg_leader.specs.Course.{Course, IsOutcome}
-use Rattle.reg_refusals.specs.Refusal.{no_memory}
+use Rattle.reg_rules.specs.reg_refusals.Refusal.{no_memory}
 use Rattle.reg_leader.specs.Step.{IsStep}
 use Rattle.reg_leader.specs.declared.command.Command.{Command}
 use Rattle.reg_leader.specs.declared.decision.Decision.{Decision}
-use Rattle.reg_refusals.specs.declared.refusal.Refusal.{Refusal}
+use Rattle.reg_rules.specs.reg_refusals.declared.refusal.Refusal.{Refusal}
 use Rattle.reg_leader.specs.declared.reply.Reply.TheVariants as replies
 
 -- a course comes to that decision

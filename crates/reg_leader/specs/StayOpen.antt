@@ -2,13 +2,13 @@
 use Rattle.std.specs.Prelude.{◌≡◌, ℕ, List, false}
 use Rattle.std.specs.FinSet.{from_list, union}
 use Rattle.std.specs.List.{Contains}
-use Rattle.reg_entries.specs.declared.entry.Entry.{Entry}
-use Rattle.reg_fold.specs.Closed.{is_closed}
-use Rattle.reg_fold.specs.Entries.{entries}
-use Rattle.reg_records.specs.declared.record.Record.{Record}
-use Rattle.reg_set.specs.LastRecords.{last_records}
-use Rattle.reg_set.specs.RecordOrder.{record_cmp}
-use Rattle.reg_set.specs.Records.{Records}
+use Rattle.reg_rules.specs.reg_entries.declared.entry.Entry.{Entry}
+use Rattle.reg_rules.specs.reg_fold.Closed.{is_closed}
+use Rattle.reg_rules.specs.reg_fold.Entries.{entries}
+use Rattle.reg_rules.specs.reg_records.declared.record.Record.{Record}
+use Rattle.reg_rules.specs.reg_set.LastRecords.{last_records}
+use Rattle.reg_rules.specs.reg_set.RecordOrder.{record_cmp}
+use Rattle.reg_rules.specs.reg_set.Records.{Records}
 use Rattle.reg_leader.specs.Step.{IsStep}
 use Rattle.reg_leader.specs.declared.command.Command.{Command}
 use Rattle.reg_leader.specs.declared.reply.Reply.{Reply}

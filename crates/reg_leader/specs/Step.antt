@@ -2,26 +2,26 @@
 -- Below, rs are the last records of the log and n is the next offset.
 use Rattle.std.specs.Prelude.{ℕ, List, [], ◌∷◌, ◌++◌, Bool, true, false, ◌==◌, Option, Some, None, map, if◌then◌else◌}
 use Rattle.std.specs.List.{filter}
-use Rattle.avro_schema.specs.Schema.{Meaning, schema_of}
-use Rattle.reg_entries.specs.declared.entry.Entry.{Entry}
-use Rattle.reg_fold.specs.Entries.{entries}
-use Rattle.reg_fold.specs.IdMark.{last_id}
-use Rattle.reg_fold.specs.InForce.{Scope, level, own_level}
-use Rattle.reg_fold.specs.Standing.{live, greatest_version, version_in}
-use Rattle.reg_fold.specs.declared.version_ref.VersionRef.{VersionRef}
-use Rattle.reg_fold.specs.declared.version_ref.VersionRef.TheVariants.{Latest, Number}
-use Rattle.reg_level_names.specs.declared.level.Level.{Level}
-use Rattle.reg_modes.specs.InForce.{mode, own_mode}
-use Rattle.reg_modes.specs.Permitted.{may_register, may_write}
-use Rattle.reg_modes.specs.declared.mode.Mode.{Mode}
-use Rattle.reg_records.specs.declared.record.Record.{Record}
-use Rattle.reg_refusals.specs.declared.reason.Reason.TheVariants as reasons
-use Rattle.reg_refusals.specs.declared.refusal.Refusal.{Refusal}
-use Rattle.reg_refusals.specs.declared.refusal.Refusal.TheVariants as refusals
-use Rattle.reg_set.specs.Records.{Records}
+use Rattle.reg_rules.specs.avro_schema.Schema.{Meaning, schema_of}
+use Rattle.reg_rules.specs.reg_entries.declared.entry.Entry.{Entry}
+use Rattle.reg_rules.specs.reg_fold.Entries.{entries}
+use Rattle.reg_rules.specs.reg_fold.IdMark.{last_id}
+use Rattle.reg_rules.specs.reg_fold.InForce.{Scope, level, own_level}
+use Rattle.reg_rules.specs.reg_fold.Standing.{live, greatest_version, version_in}
+use Rattle.reg_rules.specs.reg_fold.declared.version_ref.VersionRef.{VersionRef}
+use Rattle.reg_rules.specs.reg_fold.declared.version_ref.VersionRef.TheVariants.{Latest, Number}
+use Rattle.reg_rules.specs.reg_level_names.declared.level.Level.{Level}
+use Rattle.reg_rules.specs.reg_modes.InForce.{mode, own_mode}
+use Rattle.reg_rules.specs.reg_modes.Permitted.{may_register, may_write}
+use Rattle.reg_rules.specs.reg_modes.declared.mode.Mode.{Mode}
+use Rattle.reg_rules.specs.reg_records.declared.record.Record.{Record}
+use Rattle.reg_rules.specs.reg_refusals.declared.reason.Reason.TheVariants as reasons
+use Rattle.reg_rules.specs.reg_refusals.declared.refusal.Refusal.{Refusal}
+use Rattle.reg_rules.specs.reg_refusals.declared.refusal.Refusal.TheVariants as refusals
+use Rattle.reg_rules.specs.reg_set.Records.{Records}
 use Rattle.reg_leader.specs.Course.{Course, Refused, Does, IfMet, IsOutcome, ◌▸◌, where_found}
 use Rattle.reg_rules.specs.Standing.{id_for, is_of, next_version, standing, version_meant}
-use Rattle.reg_entries.specs.Sought.{has_schema, newest, texts_of}
+use Rattle.reg_rules.specs.reg_entries.Sought.{has_schema, newest, texts_of}
 use Rattle.reg_rules.specs.Tests as test
 use Rattle.reg_rules.specs.Tests.{refuse_if, refuse_unless}
 use Rattle.reg_rules.specs.Writings.{deleted_again, deleted_up_to, id_marked, level_cleared}

@@ -1,17 +1,17 @@
 // Which sets of records a topic can begin with.
 ghost use Rattle.std.specs.Prelude.{◌≡◌, ◌⊎◌, ◌<◌, ◌≤◌, [], ◌∷◌, true, false, IfErr, IfOk, OnOk};
-ghost use Rattle.reg_fold.specs.Closed.{is_closed};
-ghost use Rattle.reg_fold.specs.IdMark.{needs_mark};
-ghost use Rattle.reg_set.specs.LastRecords.{last_records};
-ghost use Rattle.reg_records.specs.declared.limits.TheConstants.{OFFSET_LIMIT};
+ghost use Rattle.reg_rules.specs.reg_fold.Closed.{is_closed};
+ghost use Rattle.reg_rules.specs.reg_fold.IdMark.{needs_mark};
+ghost use Rattle.reg_rules.specs.reg_set.LastRecords.{last_records};
+ghost use Rattle.reg_rules.specs.reg_records.declared.limits.TheConstants.{OFFSET_LIMIT};
 ghost use Rattle.reg_leader.specs.Adoption.{HasPlace, IsAdoptRefusal, adopting};
 ghost use Rattle.reg_rules.specs.Writings.{id_marked, numbered};
 ghost use Rattle.reg_leader.specs.declared.adoption.AdoptError.TheVariants.{NumbersUsedUp, OutOfMemory};
 
-use reg_fold::Registry;
-use reg_records::{OFFSET_LIMIT, Record};
+use reg_rules::reg_fold::Registry;
+use reg_rules::reg_records::{OFFSET_LIMIT, Record};
+use reg_rules::reg_set::RecordSet;
 use reg_rules::{Writing, numbered};
-use reg_set::RecordSet;
 use std::alloc::{AllocError, Global};
 use std::error::Error;
 use std::fmt;

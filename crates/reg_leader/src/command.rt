@@ -1,8 +1,8 @@
 // What a registry is told to do.
-use base_text::Text;
-use reg_fold::VersionRef;
-use reg_level_names::Level;
-use reg_modes::Mode;
+use reg_rules::base_text::Text;
+use reg_rules::reg_fold::VersionRef;
+use reg_rules::reg_level_names::Level;
+use reg_rules::reg_modes::Mode;
 
 /// A change that is asked for. Where a subject is optional, `None` is all subjects.
 #[derive(Debug, Drop, Clone)]

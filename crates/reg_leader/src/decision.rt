@@ -1,6 +1,6 @@
 // Deciding commands.
 ghost use Rattle.std.specs.Prelude.{◌≡◌, ◌⊎◌, ◌+◌, suc, nat_le};
-ghost use Rattle.reg_records.specs.declared.limits.TheConstants.{OFFSET_LIMIT};
+ghost use Rattle.reg_rules.specs.reg_records.declared.limits.TheConstants.{OFFSET_LIMIT};
 ghost use Rattle.reg_leader.specs.Course.{Does};
 ghost use Rattle.reg_leader.specs.Outcome.{Decides, IsOutOfMemory, Concludes};
 ghost use Rattle.reg_leader.specs.Step.{IsStep, course_of};
@@ -14,11 +14,11 @@ use crate::levels::{clear_level, no_op, set_level};
 use crate::modes::{clear_mode, set_mode};
 use crate::registering::register;
 use crate::reply::Reply;
-use base_text::Listed;
-use reg_fold::{Refusal, Registry, StoreFault};
-use reg_levels::Judged;
-use reg_records::{OFFSET_LIMIT, Record};
+use reg_rules::base_text::Listed;
 use reg_rules::numbered;
+use reg_rules::reg_fold::{Refusal, Registry, StoreFault};
+use reg_rules::reg_levels::Judged;
+use reg_rules::reg_records::{OFFSET_LIMIT, Record};
 use std::alloc::Global;
 
 /// What is replied to a command, and the records that it writes.

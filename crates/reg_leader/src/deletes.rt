@@ -9,9 +9,9 @@ ghost use Rattle.reg_rules.specs.Writings.{removed};
 use crate::deed::Deed;
 use crate::marking::marked;
 use crate::reply::Reply;
-use base_text::{Listed, Text};
-use reg_fold::{Entry, Refusal, Registry, VersionRef};
-use reg_modes::{may_write, mode_in_force};
+use reg_rules::base_text::{Listed, Text};
+use reg_rules::reg_fold::{Entry, Refusal, Registry, VersionRef};
+use reg_rules::reg_modes::{may_write, mode_in_force};
 use reg_rules::{Writing, must_be_open, must_have_offset, must_stand};
 use std::alloc::{AllocError, Global};
 

@@ -7,10 +7,10 @@ use crate::deed::Deed;
 use crate::marking::mark_over;
 use crate::registering::{next_version, writes};
 use crate::reply::Reply;
-use avro_schema::Schema;
-use base_text::Text;
-use reg_fold::{Entry, Reason, Refusal, Registry, VersionRef};
-use reg_modes::{may_register, mode_in_force};
+use reg_rules::avro_schema::Schema;
+use reg_rules::base_text::Text;
+use reg_rules::reg_fold::{Entry, Reason, Refusal, Registry, VersionRef};
+use reg_rules::reg_modes::{may_register, mode_in_force};
 use reg_rules::{
     is_of, live_import, must_be_above_mark, must_be_open, must_have_offset, must_name_no_other,
     read_schema,

@@ -2,10 +2,10 @@
 // needs a law calls it.
 ghost use Rattle.reg_leader.specs.OneStep.{BatchesAreRead, BatchesEndByTheLimit, BatchesGoOn, BatchesHaveLines, RefusalsWriteNothing, StepsAreSingle, StepsMeetLevels};
 
-use avro_schema::normal_texts_read_back;
-use reg_fold::{entries_are_in_limits, entries_are_read, id_mark_is_in_limits};
-use reg_levels::level_verdicts_are_single;
-use reg_values::{written_values_have_lines, written_values_read_back};
+use reg_rules::avro_schema::normal_texts_read_back;
+use reg_rules::reg_fold::{entries_are_in_limits, entries_are_read, id_mark_is_in_limits};
+use reg_rules::reg_levels::level_verdicts_are_single;
+use reg_rules::reg_values::{written_values_have_lines, written_values_read_back};
 
 /// A refusal writes nothing.
 pub fn refusals_write_nothing()

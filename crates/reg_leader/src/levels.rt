@@ -5,10 +5,10 @@ ghost use Rattle.reg_leader.specs.Step.{clear_level, no_op, set_level};
 
 use crate::deed::Deed;
 use crate::reply::Reply;
-use base_text::Text;
-use reg_fold::{Refusal, Registry};
-use reg_level_names::Level;
-use reg_modes::{may_write, mode_in_force};
+use reg_rules::base_text::Text;
+use reg_rules::reg_fold::{Refusal, Registry};
+use reg_rules::reg_level_names::Level;
+use reg_rules::reg_modes::{may_write, mode_in_force};
 use reg_rules::{Writing, must_be_open, must_have_offset, subject_of};
 use std::alloc::Global;
 

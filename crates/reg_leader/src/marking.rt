@@ -2,8 +2,8 @@
 ghost use Rattle.std.specs.Prelude.{◌≡◌, IfOk, option_copied};
 ghost use Rattle.reg_leader.specs.Step.{mark_over, marked};
 
-use reg_fold::{Entry, Registry};
 use reg_rules::Writing;
+use reg_rules::reg_fold::{Entry, Registry};
 use std::alloc::{AllocError, Global};
 
 /// The mark of ids that is written where an entry is removed or written over.

@@ -5,9 +5,9 @@ ghost use Rattle.reg_leader.specs.Step.{clear_mode, set_mode};
 
 use crate::deed::Deed;
 use crate::reply::Reply;
-use base_text::Text;
-use reg_fold::{Refusal, Registry};
-use reg_modes::{Mode, own_mode};
+use reg_rules::base_text::Text;
+use reg_rules::reg_fold::{Refusal, Registry};
+use reg_rules::reg_modes::{Mode, own_mode};
 use reg_rules::{Writing, must_allow_mode, must_be_open, must_have_offset};
 use std::alloc::Global;
 

@@ -7,11 +7,11 @@ ghost use Rattle.reg_leader.specs.Leading.{IsBefore, LeadsTo, if_met};
 
 use crate::deed::{Candidate, Deed};
 use crate::reply::Reply;
-use avro_schema::Schema;
-use base_text::Text;
-use reg_fold::{Refusal, Registry};
-use reg_levels::Judged;
-use reg_modes::{may_register, mode_in_force};
+use reg_rules::avro_schema::Schema;
+use reg_rules::base_text::Text;
+use reg_rules::reg_fold::{Refusal, Registry};
+use reg_rules::reg_levels::Judged;
+use reg_rules::reg_modes::{may_register, mode_in_force};
 use reg_rules::{
     Writing, clash_of, live_schema, must_be_number, must_be_open, must_have_offset,
     must_have_valid_defaults, read_schema,

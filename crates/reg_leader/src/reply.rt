@@ -1,8 +1,8 @@
 // What is replied to a command.
-use base_text::Listed;
-use reg_fold::Refusal;
-use reg_level_names::Level;
-use reg_modes::Mode;
+use reg_rules::base_text::Listed;
+use reg_rules::reg_fold::Refusal;
+use reg_rules::reg_level_names::Level;
+use reg_rules::reg_modes::Mode;
 
 #[derive(Debug, Drop)]
 pub enum Reply {

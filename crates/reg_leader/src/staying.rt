@@ -5,13 +5,15 @@ ghost use Rattle.reg_leader.specs.Harmless.{StepsAreHarmless};
 ghost use Rattle.reg_leader.specs.StayOpen.{StepsKeepIds, StepsStayOpen};
 ghost use Rattle.reg_leader.specs.GivenIds.{EntriesHaveGivenIds, StepsKeepGivenIds};
 
-use avro_schema::normal_texts_read_back;
-use reg_fold::{
+use reg_rules::avro_schema::normal_texts_read_back;
+use reg_rules::reg_fold::{
     entries_are_in_limits, entries_are_of_places, entries_are_read, id_mark_is_in_limits,
     none_is_no_opaque_last, two_schemas_is_least,
 };
-use reg_set::{last_is_greatest, last_records_are_enough, merging_joins_sets, records_are_ordered};
-use reg_values::written_values_read_back;
+use reg_rules::reg_set::{
+    last_is_greatest, last_records_are_enough, merging_joins_sets, records_are_ordered,
+};
+use reg_rules::reg_values::written_values_read_back;
 
 /// What a command writes is one version whose id names no other schema, after records that give no
 /// version a value, or such records alone.

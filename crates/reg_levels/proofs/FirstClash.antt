@@ -1,6 +1,6 @@
 -- Verdicts on lists of pairs, one after another.
 use Rattle.std.proofs.Common.{◌≡◌, true, false, List, [], ◌∷◌, ◌++◌, suc, All, IsTrue, sym, ap, ◌∙◌, inl, inr, arith}
-use Rattle.avro_schema.specs.declared.node.Node.{Node}
+use Rattle.avro_resolve.specs.avro_schema.declared.node.Node.{Node}
 use Rattle.avro_resolve.specs.declared.resolving.Verdict.TheVariants.{Compatible, Clash}
 use Rattle.avro_resolve.specs.Verdict.{HaveOneVerdict}
 use Rattle.std.proofs.lemmas.List.Elements.{All-nil, All-cons}

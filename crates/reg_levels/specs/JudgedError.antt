@@ -1,6 +1,6 @@
 -- Why nothing was judged.
 use Rattle.std.specs.Prelude.{◌≡◌, ⊤, ℕ, List, true, false, Some, codes}
-use Rattle.avro_schema.specs.Schema.{is_schema}
+use Rattle.avro_resolve.specs.avro_schema.Schema.{is_schema}
 use Rattle.reg_levels.specs.Texts.{VersionText}
 use Rattle.reg_levels.specs.Judgement.{first_unread}
 use Rattle.reg_levels.specs.declared.judged_error.JudgedError.{JudgedError}

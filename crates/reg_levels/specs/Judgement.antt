@@ -1,7 +1,7 @@
 -- A verdict, and what it was made of.
 use Rattle.std.specs.Prelude.{◌≡◌, ℕ, List, Option, None, true, not, option_map}
 use Rattle.std.specs.List.{find}
-use Rattle.avro_schema.specs.Schema.{is_schema}
+use Rattle.avro_resolve.specs.avro_schema.Schema.{is_schema}
 use Rattle.reg_level_names.specs.declared.level.Level.{Level}
 use Rattle.reg_levels.specs.declared.verdict.LevelVerdict.{LevelVerdict}
 use Rattle.reg_levels.specs.RequiredPairs.{HasRisingVersions}

@@ -1,6 +1,6 @@
 -- What the verdict on a list of required pairs is.
 use Rattle.std.specs.Prelude.{◌≡◌, ◌⊎◌, ◌↔◌, IsTrue, List, [], ◌∷◌, true, false, Some, None, All}
-use Rattle.avro_schema.specs.declared.node.Node.{Node}
+use Rattle.avro_resolve.specs.avro_schema.declared.node.Node.{Node}
 use Rattle.avro_resolve.specs.declared.trail.Trail.{Trail}
 use Rattle.avro_resolve.specs.Trails.{AreCompatible, IsShown}
 use Rattle.reg_level_names.specs.declared.level.Level.{Level}

@@ -1,7 +1,7 @@
 -- The pairs of schemas that a level requires to be compatible. Old versions stand by ascending version.
 use Rattle.std.specs.Prelude.{ℕ, ◌-◌, List, [], ◌∷◌, length, map, reverse, drop, flat_map}
 use Rattle.std.specs.List.Sorted.{IsStrictlyIncreasing}
-use Rattle.avro_schema.specs.declared.node.Node.{Node}
+use Rattle.avro_resolve.specs.avro_schema.declared.node.Node.{Node}
 use Rattle.reg_level_names.specs.declared.level.Level.{Level}
 use Rattle.reg_level_names.specs.declared.level.Level.TheVariants as levels
 use Rattle.reg_levels.specs.declared.direction.Direction.{Direction}

@@ -1,8 +1,8 @@
 -- Schemas that are given by their texts.
 use Rattle.std.specs.Prelude.{ℕ, List, [], map}
 use Rattle.std.specs.Option.{option_map_or}
-use Rattle.avro_schema.specs.declared.node.Node.{Node}
-use Rattle.avro_schema.specs.Schema.{schema_of}
+use Rattle.avro_resolve.specs.avro_schema.declared.node.Node.{Node}
+use Rattle.avro_resolve.specs.avro_schema.Schema.{schema_of}
 use Rattle.reg_level_names.specs.declared.level.Level.{Level}
 use Rattle.reg_levels.specs.declared.verdict.LevelVerdict.{LevelVerdict}
 use Rattle.reg_levels.specs.RequiredPairs.{Version}

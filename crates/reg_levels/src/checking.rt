@@ -5,8 +5,8 @@ ghost use Rattle.reg_levels.specs.LevelVerdict.{IsVerdictOn, IsLevelVerdict, IsO
 
 use crate::direction::Direction;
 use crate::verdict::LevelVerdict;
+use avro_resolve::avro_schema::Schema;
 use avro_resolve::{Verdict, resolve, schemas_have_one_verdict};
-use avro_schema::Schema;
 use reg_level_names::Level;
 use std::alloc::{AllocError, Global};
 

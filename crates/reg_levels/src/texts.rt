@@ -1,6 +1,6 @@
 // Whether a new schema meets a level against old versions that are given by their texts.
 ghost use Rattle.std.specs.Prelude.{◌≡◌, ℕ, List, None, true, IfOk, IfErr, OnOk, flat_map, map, reverse};
-ghost use Rattle.avro_schema.specs.Schema.{is_schema};
+ghost use Rattle.avro_resolve.specs.avro_schema.Schema.{is_schema};
 ghost use Rattle.reg_levels.specs.RequiredPairs.{HasRisingVersions, Version, required_of};
 ghost use Rattle.reg_levels.specs.LevelVerdict.{IsLevelVerdict, IsVerdictOn};
 ghost use Rattle.reg_levels.specs.Texts.{nodes_in, versions_in};
@@ -10,8 +10,8 @@ ghost use Rattle.reg_levels.specs.JudgedError.{IsJudgedRefusal};
 use crate::checking::{check, check_version, looked_at};
 use crate::judged_error::JudgedError;
 use crate::verdict::LevelVerdict;
-use avro_schema::Schema;
-use base_text::Text;
+use avro_resolve::avro_schema::Schema;
+use avro_resolve::base_text::Text;
 use reg_level_names::Level;
 use std::alloc::{AllocError, Global};
 

@@ -6,7 +6,7 @@ ghost use Rattle.reg_levels.specs.Message as message;
 use crate::direction::Direction;
 use crate::message::ClashMessage;
 use avro_resolve::Trail;
-use base_text::Text;
+use avro_resolve::base_text::Text;
 use std::alloc::{AllocError, Global};
 
 /// Whether a level is met. Where it isn't, the first required pair that clashes is reported: its

@@ -8,24 +8,24 @@ use Rattle.std.specs.List.{find}
 use Rattle.std.specs.List.Sorted.{IsStrictlyIncreasing}
 use Rattle.std.specs.Option.{ok_or, option_map_or}
 use Rattle.std.specs.Prelude.{Contains, Option, is_err}
-use Rattle.avro_schema.specs.Defaults.{bad_defaults}
-use Rattle.avro_schema.specs.Schema.{Meaning, is_schema, schema_of}
-use Rattle.reg_level_names.specs.declared.level.Level.{Level}
+use Rattle.reg_modes.specs.avro_schema.Defaults.{bad_defaults}
+use Rattle.reg_modes.specs.avro_schema.Schema.{Meaning, is_schema, schema_of}
+use Rattle.reg_modes.specs.reg_level_names.declared.level.Level.{Level}
 use Rattle.reg_levels.specs.declared.verdict.LevelVerdict.{LevelVerdict}
 use Rattle.reg_levels.specs.Judgement.{first_unread}
 use Rattle.reg_levels.specs.LevelVerdict.{IsLevelVerdict}
 use Rattle.reg_levels.specs.RequiredPairs as pairs
 use Rattle.reg_levels.specs.Texts.{VersionText, versions_in, IsVerdictOfTexts}
-use Rattle.reg_entries.specs.Sought as sought
-use Rattle.reg_entries.specs.declared.entry.Entry.{Entry}
-use Rattle.reg_set.specs.Records.{Records}
-use Rattle.reg_fold.specs.Entries.{EntriesAreRead, entries}
-use Rattle.reg_fold.specs.Standing.{FoundEntriesStand, version_in}
-use Rattle.reg_fold.specs.declared.version_ref.VersionRef.{VersionRef}
+use Rattle.reg_modes.specs.reg_entries.Sought as sought
+use Rattle.reg_modes.specs.reg_entries.declared.entry.Entry.{Entry}
+use Rattle.reg_modes.specs.reg_set.Records.{Records}
+use Rattle.reg_modes.specs.reg_fold.Entries.{EntriesAreRead, entries}
+use Rattle.reg_modes.specs.reg_fold.Standing.{FoundEntriesStand, version_in}
+use Rattle.reg_modes.specs.reg_fold.declared.version_ref.VersionRef.{VersionRef}
 use Rattle.reg_lookup.specs.Checked.{asked_on, read_sound_schema, unless_bad}
 use Rattle.reg_lookup.specs.Found.{and_then, counted, version_found}
-use Rattle.reg_refusals.specs.declared.refusal.Refusal.{Refusal}
-use Rattle.reg_refusals.specs.declared.refusal.Refusal.TheVariants.{InvalidSchema, VersionNotFound}
+use Rattle.reg_modes.specs.reg_refusals.declared.refusal.Refusal.{Refusal}
+use Rattle.reg_modes.specs.reg_refusals.declared.refusal.Refusal.TheVariants.{InvalidSchema, VersionNotFound}
 
 -- texts of entries whose versions rise
 pub texts_rise : (olds : List (ℕ × Bor (List ℕ))) (es : List Entry)

@@ -2,7 +2,7 @@
 use Rattle.std.proofs.Common.{◌≡◌, ◌++◌, ◌∙◌, ℕ, List, Bool, true, false, Some, codes, decimal, if◌then◌else◌, ap, append_assoc}
 use Rattle.json.specs.Print.{escape, escape_byte, quoted}
 use Rattle.serde_json.specs.Written.{compact_text}
-use Rattle.reg_entries.specs.declared.entry.Entry.{Entry}
+use Rattle.reg_modes.specs.reg_entries.declared.entry.Entry.{Entry}
 use Rattle.reg_lookup.specs.Bodies.{check_body, entry_body, place_data}
 
 pub compact_text-place_data : (e : Entry) (subject : List ℕ) → subject ≡ quoted e.subject

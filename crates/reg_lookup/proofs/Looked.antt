@@ -3,10 +3,10 @@ use Rattle.std.proofs.Common.{◌≡◌, ℕ, Bool, false, List, [], ◌∷◌, 
 use Rattle.std.specs.List.{filter}
 use Rattle.std.specs.Option.{ok_or}
 use Rattle.std.specs.Prelude.{◌==◌}
-use Rattle.avro_schema.specs.Schema.{Meaning, schema_of}
-use Rattle.reg_entries.specs.Sought.{counting, has_schema, newest}
-use Rattle.reg_entries.specs.declared.entry.Entry.{Entry}
-use Rattle.reg_refusals.specs.declared.refusal.Refusal.TheVariants.{SchemaNotFound, InvalidSchema}
+use Rattle.reg_modes.specs.avro_schema.Schema.{Meaning, schema_of}
+use Rattle.reg_modes.specs.reg_entries.Sought.{counting, has_schema, newest}
+use Rattle.reg_modes.specs.reg_entries.declared.entry.Entry.{Entry}
+use Rattle.reg_modes.specs.reg_refusals.declared.refusal.Refusal.TheVariants.{SchemaNotFound, InvalidSchema}
 use Rattle.reg_lookup.specs.Bodies.{entry_body}
 use Rattle.reg_lookup.specs.BySchema.{latest_with, lookup}
 use Rattle.reg_lookup.specs.Found.{and_then, found_map, unless_none}

@@ -5,15 +5,15 @@ use Rattle.std.proofs.lemmas.Simd.{map-map}
 use Rattle.std.proofs.lemmas.List.{drop-map, length-drop, length-map}
 use Rattle.std.specs.List.{find, slice_index}
 use Rattle.std.specs.List.Sorted.{IsStrictlyIncreasing}
-use Rattle.avro_schema.specs.Schema.{Meaning, is_schema}
-use Rattle.avro_schema.specs.declared.node.Node.{Node}
-use Rattle.reg_level_names.specs.declared.level.Level.{Level}
-use Rattle.reg_level_names.specs.declared.level.Level.TheVariants as levels
+use Rattle.reg_modes.specs.avro_schema.Schema.{Meaning, is_schema}
+use Rattle.reg_modes.specs.avro_schema.declared.node.Node.{Node}
+use Rattle.reg_modes.specs.reg_level_names.declared.level.Level.{Level}
+use Rattle.reg_modes.specs.reg_level_names.declared.level.Level.TheVariants as levels
 use Rattle.reg_levels.specs.Judgement.{first_unread}
 use Rattle.reg_levels.specs.LevelVerdict.{IsVerdictOn}
 use Rattle.reg_levels.specs.RequiredPairs.{HasRisingVersions, looked_at, passed_over, required_of, required_pairs}
 use Rattle.reg_levels.specs.Texts.{VersionText, nodes_in, versions_in}
-use Rattle.reg_refusals.specs.declared.refusal.Refusal.{Refusal}
+use Rattle.reg_modes.specs.reg_refusals.declared.refusal.Refusal.{Refusal}
 use Rattle.reg_lookup.specs.Checked.{AreRead, CheckedOn, TellsVerdict, asked_on, read_sound_schema}
 use Rattle.reg_lookup.specs.Found.{and_then, found_map}
 use Rattle.reg_lookup.specs.declared.answered.Answer.{Answer}

@@ -1,8 +1,8 @@
 -- Of the entries of an id those that count.
 use Rattle.std.proofs.Common.{◌≡◌, ◌==◌, ◌∙◌, List, [], ◌∷◌, ℕ, Bool, true, false, cond, Bor, Ok, map, refl, sym, ap, length}
 use Rattle.std.specs.List.{filter}
-use Rattle.reg_entries.specs.Sought.{counts}
-use Rattle.reg_entries.specs.declared.entry.Entry.{Entry}
+use Rattle.reg_modes.specs.reg_entries.Sought.{counts}
+use Rattle.reg_modes.specs.reg_entries.declared.entry.Entry.{Entry}
 use Rattle.reg_lookup.specs.Bodies.{list_body, place_data}
 use Rattle.reg_lookup.specs.ById.{places_among}
 

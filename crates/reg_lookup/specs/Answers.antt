@@ -1,10 +1,10 @@
 -- The answer to a query where rs are the last records.
 use Rattle.std.specs.Prelude.{◌≡◌, ◌↔◌, Ok, Some}
-use Rattle.reg_set.specs.Compaction.{KeepsLasts}
-use Rattle.reg_set.specs.LastRecords.{last_records}
-use Rattle.reg_set.specs.Records.{Records}
-use Rattle.reg_fold.specs.Entries.{entries}
-use Rattle.reg_fold.specs.InForce.{level}
+use Rattle.reg_modes.specs.reg_set.Compaction.{KeepsLasts}
+use Rattle.reg_modes.specs.reg_set.LastRecords.{last_records}
+use Rattle.reg_modes.specs.reg_set.Records.{Records}
+use Rattle.reg_modes.specs.reg_fold.Entries.{entries}
+use Rattle.reg_modes.specs.reg_fold.InForce.{level}
 use Rattle.reg_lookup.specs.declared.answered.Answer.{Answer}
 use Rattle.reg_lookup.specs.declared.query.Query.{Query}
 use Rattle.reg_lookup.specs.declared.query.Query.TheVariants as queries

@@ -3,9 +3,9 @@ use Rattle.std.specs.Prelude.{ℕ, List, map, Bool, Option, Some, None, Result, 
 use Rattle.serde_json.specs.Data.{unsigned, Data, boolean, number, string, array, object, no_items, item, Members, member, no_members}
 use Rattle.serde_json.specs.View.{items_of}
 use Rattle.serde_json.specs.Written.{compact_text}
-use Rattle.reg_entries.specs.declared.entry.Entry.{Entry}
-use Rattle.reg_refusals.specs.Refusal.{code_of, status_of, message_of}
-use Rattle.reg_refusals.specs.declared.refusal.Refusal.{Refusal}
+use Rattle.reg_modes.specs.reg_entries.declared.entry.Entry.{Entry}
+use Rattle.reg_modes.specs.reg_refusals.Refusal.{code_of, status_of, message_of}
+use Rattle.reg_modes.specs.reg_refusals.declared.refusal.Refusal.{Refusal}
 use Rattle.reg_lookup.specs.declared.answered.Answer.{Answer}
 
 -- a list of what stands for each

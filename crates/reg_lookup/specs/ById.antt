@@ -2,12 +2,12 @@
 use Rattle.std.specs.Prelude.{ℕ, List, [], ◌∷◌, Bool, Result, Ok, Err}
 use Rattle.std.specs.List.{filter}
 use Rattle.std.specs.Option.{ok_or}
-use Rattle.reg_entries.specs.Sought.{counts, with_id}
-use Rattle.reg_entries.specs.declared.entry.Entry.{Entry}
-use Rattle.reg_refusals.specs.declared.refusal.Refusal.{Refusal}
-use Rattle.reg_refusals.specs.declared.refusal.Refusal.TheVariants.{SchemaNotFound}
-use Rattle.reg_set.specs.Records.{Records}
-use Rattle.reg_fold.specs.Standing.{named}
+use Rattle.reg_modes.specs.reg_entries.Sought.{counts, with_id}
+use Rattle.reg_modes.specs.reg_entries.declared.entry.Entry.{Entry}
+use Rattle.reg_modes.specs.reg_refusals.declared.refusal.Refusal.{Refusal}
+use Rattle.reg_modes.specs.reg_refusals.declared.refusal.Refusal.TheVariants.{SchemaNotFound}
+use Rattle.reg_modes.specs.reg_set.Records.{Records}
+use Rattle.reg_modes.specs.reg_fold.Standing.{named}
 use Rattle.reg_lookup.specs.Bodies.{list_body, place_data, schema_body}
 use Rattle.reg_lookup.specs.Found.{found_map}
 

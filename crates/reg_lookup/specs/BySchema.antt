@@ -2,11 +2,11 @@
 use Rattle.std.specs.Prelude.{ℕ, List, Bool, Result}
 use Rattle.std.specs.List.{filter}
 use Rattle.std.specs.Option.{ok_or}
-use Rattle.avro_schema.specs.Schema.{Meaning, schema_of}
-use Rattle.reg_entries.specs.Sought.{has_schema, newest}
-use Rattle.reg_entries.specs.declared.entry.Entry.{Entry}
-use Rattle.reg_refusals.specs.declared.refusal.Refusal.{Refusal}
-use Rattle.reg_refusals.specs.declared.refusal.Refusal.TheVariants.{SchemaNotFound, InvalidSchema}
+use Rattle.reg_modes.specs.avro_schema.Schema.{Meaning, schema_of}
+use Rattle.reg_modes.specs.reg_entries.Sought.{has_schema, newest}
+use Rattle.reg_modes.specs.reg_entries.declared.entry.Entry.{Entry}
+use Rattle.reg_modes.specs.reg_refusals.declared.refusal.Refusal.{Refusal}
+use Rattle.reg_modes.specs.reg_refusals.declared.refusal.Refusal.TheVariants.{SchemaNotFound, InvalidSchema}
 use Rattle.reg_lookup.specs.Bodies.{entry_body}
 use Rattle.reg_lookup.specs.Found.{counted, and_then, found_map}
 

@@ -1,10 +1,10 @@
 -- Queries by subject. Below, es are all entries, by subject, then by version.
 use Rattle.std.specs.Prelude.{ℕ, List, Bool, Result}
 use Rattle.serde_json.specs.Data.{string}
-use Rattle.reg_entries.specs.Sought as sought
-use Rattle.reg_entries.specs.declared.entry.Entry.{Entry}
-use Rattle.reg_refusals.specs.declared.refusal.Refusal.{Refusal}
-use Rattle.reg_fold.specs.declared.version_ref.VersionRef.{VersionRef}
+use Rattle.reg_modes.specs.reg_entries.Sought as sought
+use Rattle.reg_modes.specs.reg_entries.declared.entry.Entry.{Entry}
+use Rattle.reg_modes.specs.reg_refusals.declared.refusal.Refusal.{Refusal}
+use Rattle.reg_modes.specs.reg_fold.declared.version_ref.VersionRef.{VersionRef}
 use Rattle.reg_lookup.specs.Bodies.{list_body, number_data, entry_body}
 use Rattle.reg_lookup.specs.Found.{counted, version_found, found_map}
 

@@ -1,21 +1,21 @@
 -- The query whether a schema may follow. Below, es are all entries.
 use Rattle.std.specs.Prelude.{◌≡◌, ℕ, List, [], ◌∷◌, Bool, false, Option, Some, None, Result, Ok, Err}
-use Rattle.avro_schema.specs.Defaults.{bad_defaults}
-use Rattle.avro_schema.specs.Schema.{Meaning}
-use Rattle.reg_level_names.specs.declared.level.Level.{Level}
+use Rattle.reg_modes.specs.avro_schema.Defaults.{bad_defaults}
+use Rattle.reg_modes.specs.avro_schema.Schema.{Meaning}
+use Rattle.reg_modes.specs.reg_level_names.declared.level.Level.{Level}
 use Rattle.reg_levels.specs.Judgement.{first_unread}
 use Rattle.reg_levels.specs.declared.verdict.LevelVerdict.{LevelVerdict}
 use Rattle.reg_levels.specs.Message.{message_of}
 use Rattle.reg_levels.specs.RequiredPairs.{HasRisingVersions, looked_at}
 use Rattle.reg_levels.specs.Texts.{VersionText, IsVerdictOfTexts}
-use Rattle.reg_entries.specs.Sought.{live_of, texts_of}
-use Rattle.reg_entries.specs.declared.entry.Entry.{Entry}
-use Rattle.reg_set.specs.Records.{Records}
-use Rattle.reg_fold.specs.Entries.{entries}
-use Rattle.reg_fold.specs.InForce.{level}
-use Rattle.reg_refusals.specs.declared.refusal.Refusal.{Refusal}
-use Rattle.reg_refusals.specs.declared.refusal.Refusal.TheVariants.{InvalidSchema}
-use Rattle.reg_fold.specs.declared.version_ref.VersionRef.{VersionRef}
+use Rattle.reg_modes.specs.reg_entries.Sought.{live_of, texts_of}
+use Rattle.reg_modes.specs.reg_entries.declared.entry.Entry.{Entry}
+use Rattle.reg_modes.specs.reg_set.Records.{Records}
+use Rattle.reg_modes.specs.reg_fold.Entries.{entries}
+use Rattle.reg_modes.specs.reg_fold.InForce.{level}
+use Rattle.reg_modes.specs.reg_refusals.declared.refusal.Refusal.{Refusal}
+use Rattle.reg_modes.specs.reg_refusals.declared.refusal.Refusal.TheVariants.{InvalidSchema}
+use Rattle.reg_modes.specs.reg_fold.declared.version_ref.VersionRef.{VersionRef}
 use Rattle.reg_lookup.specs.declared.answered.Answer.{Answer}
 use Rattle.reg_lookup.specs.Bodies.{check_body, answer_with}
 use Rattle.reg_lookup.specs.BySchema.{read_schema}

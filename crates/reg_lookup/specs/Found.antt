@@ -1,12 +1,12 @@
 -- What is found among the entries es, or why nothing is.
 use Rattle.std.specs.Prelude.{ℕ, List, [], ◌∷◌, Bool, Result, Ok, Err}
 use Rattle.std.specs.Option.{ok_or}
-use Rattle.reg_entries.specs.Sought.{counting}
-use Rattle.reg_entries.specs.declared.entry.Entry.{Entry}
-use Rattle.reg_refusals.specs.declared.refusal.Refusal.{Refusal}
-use Rattle.reg_refusals.specs.declared.refusal.Refusal.TheVariants.{SubjectNotFound, VersionNotFound}
-use Rattle.reg_fold.specs.Standing.{version_in}
-use Rattle.reg_fold.specs.declared.version_ref.VersionRef.{VersionRef}
+use Rattle.reg_modes.specs.reg_entries.Sought.{counting}
+use Rattle.reg_modes.specs.reg_entries.declared.entry.Entry.{Entry}
+use Rattle.reg_modes.specs.reg_refusals.declared.refusal.Refusal.{Refusal}
+use Rattle.reg_modes.specs.reg_refusals.declared.refusal.Refusal.TheVariants.{SubjectNotFound, VersionNotFound}
+use Rattle.reg_modes.specs.reg_fold.Standing.{version_in}
+use Rattle.reg_modes.specs.reg_fold.declared.version_ref.VersionRef.{VersionRef}
 
 -- goes on with what was found
 abbrev pub and_then : {X Y : Type 0} → (X → Result Y Refusal) → Result X Refusal → Result Y Refusal

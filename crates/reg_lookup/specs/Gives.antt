@@ -1,6 +1,6 @@
 -- Private: what a part of a lookup gives, or why it gives nothing.
 use Rattle.std.specs.Prelude.{◌≡◌, ⊤, ℕ, List, Result, Ok, Err}
-use Rattle.reg_refusals.specs.declared.refusal.Refusal.{Refusal}
+use Rattle.reg_modes.specs.reg_refusals.declared.refusal.Refusal.{Refusal}
 use Rattle.reg_lookup.specs.Bodies.{answer_with}
 use Rattle.reg_lookup.specs.declared.answered.Answer.{Answer}
 use Rattle.reg_lookup.specs.declared.error.LookupError.{LookupError}

@@ -1,12 +1,12 @@
 -- Queries for levels and modes. Below, rs are the last records.
 use Rattle.std.specs.Prelude.{ℕ, List, Bool, true, false, Option, Some, None, Result}
 use Rattle.std.specs.Option.{ok_or}
-use Rattle.reg_set.specs.Records.{Records}
-use Rattle.reg_level_names.specs.Level.{level_text}
-use Rattle.reg_level_names.specs.declared.level.Level.{Level}
-use Rattle.reg_fold.specs.InForce.{Scope, own_level, level}
-use Rattle.reg_refusals.specs.declared.refusal.Refusal.{Refusal}
-use Rattle.reg_refusals.specs.declared.refusal.Refusal.TheVariants.{SubjectHasNoLevel, SubjectHasNoMode}
+use Rattle.reg_modes.specs.reg_set.Records.{Records}
+use Rattle.reg_modes.specs.reg_level_names.Level.{level_text}
+use Rattle.reg_modes.specs.reg_level_names.declared.level.Level.{Level}
+use Rattle.reg_modes.specs.reg_fold.InForce.{Scope, own_level, level}
+use Rattle.reg_modes.specs.reg_refusals.declared.refusal.Refusal.{Refusal}
+use Rattle.reg_modes.specs.reg_refusals.declared.refusal.Refusal.TheVariants.{SubjectHasNoLevel, SubjectHasNoMode}
 use Rattle.reg_modes.specs.InForce.{own_mode, mode}
 use Rattle.reg_modes.specs.Mode.{mode_text}
 use Rattle.reg_modes.specs.declared.mode.Mode.{Mode}

@@ -1,8 +1,8 @@
 // The answer to a query.
 ghost use Rattle.std.specs.Prelude.{◌≡◌, IfOk, option_map};
-ghost use Rattle.reg_set.specs.Compaction.{KeepsLasts};
-ghost use Rattle.reg_set.specs.LastRecords.{last_records};
-ghost use Rattle.reg_set.specs.Records.{Records};
+ghost use Rattle.reg_modes.specs.reg_set.Compaction.{KeepsLasts};
+ghost use Rattle.reg_modes.specs.reg_set.LastRecords.{last_records};
+ghost use Rattle.reg_modes.specs.reg_set.Records.{Records};
 ghost use Rattle.reg_lookup.specs.Answers.{IsAnswer, IsAnswerOver, HaveOneAnswer};
 
 use crate::answered::{Answer, answer_of};
@@ -13,8 +13,8 @@ use crate::checked::check_answer;
 use crate::laws::{keeping_lasts_answers_alike, queries_have_one_answer};
 use crate::query::Query;
 use crate::settings::{level_found, mode_found};
-use base_text::Text;
-use reg_fold::Registry;
+use reg_modes::base_text::Text;
+use reg_modes::reg_fold::Registry;
 use std::alloc::{AllocError, Global};
 
 /// The answer to a query; a refusal is one too. The only error is out of memory.

@@ -6,10 +6,10 @@ ghost use Rattle.reg_levels.specs.Message.{text_of};
 ghost use Rattle.reg_lookup.specs.Bodies as spec;
 
 use crate::in_string::InString;
-use base_text::Text;
-use reg_fold::{Entry, Refusal};
 use reg_levels::ClashMessage;
-use reg_records::quoted;
+use reg_modes::base_text::Text;
+use reg_modes::reg_fold::{Entry, Refusal};
+use reg_modes::reg_records::quoted;
 use std::alloc::{AllocError, Global};
 use std::fmt::Write;
 

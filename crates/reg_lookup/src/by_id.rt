@@ -1,15 +1,15 @@
 // Queries by a schema's id.
 ghost use Rattle.std.specs.Prelude.{◌≡◌, IfOk, IfErr, Ok};
 ghost use Rattle.std.specs.List.{filter};
-ghost use Rattle.reg_entries.specs.Sought.{counts};
-ghost use Rattle.reg_fold.specs.Entries.{entries};
+ghost use Rattle.reg_modes.specs.reg_entries.Sought.{counts};
+ghost use Rattle.reg_modes.specs.reg_fold.Entries.{entries};
 ghost use Rattle.reg_lookup.specs.ById as spec;
 ghost use Rattle.reg_lookup.specs.Gives.{IsRefusalOf};
 
 use crate::bodies::{places_body, schema_body};
 use crate::error::LookupError;
-use base_text::Text;
-use reg_fold::{Entry, Refusal, Registry};
+use reg_modes::base_text::Text;
+use reg_modes::reg_fold::{Entry, Refusal, Registry};
 use std::alloc::Global;
 
 /// The schema that an id names.

@@ -2,16 +2,16 @@
 ghost use Rattle.std.specs.Prelude.{◌≡◌, IfOk, IfErr, Ok, map};
 ghost use Rattle.std.specs.List.{filter};
 ghost use Rattle.std.specs.Option.{option_copied};
-ghost use Rattle.reg_entries.specs.Sought.{AreInVersionOrder, has_schema, newest};
-ghost use Rattle.reg_fold.specs.Entries.{entries};
+ghost use Rattle.reg_modes.specs.reg_entries.Sought.{AreInVersionOrder, has_schema, newest};
+ghost use Rattle.reg_modes.specs.reg_fold.Entries.{entries};
 ghost use Rattle.reg_lookup.specs.BySchema as spec;
 ghost use Rattle.reg_lookup.specs.Gives.{IsRefusalOf};
 
 use crate::bodies::entry_body;
 use crate::error::LookupError;
-use avro_schema::Schema;
-use base_text::Text;
-use reg_fold::{Entry, Refusal, Registry};
+use reg_modes::avro_schema::Schema;
+use reg_modes::base_text::Text;
+use reg_modes::reg_fold::{Entry, Refusal, Registry};
 use std::alloc::Global;
 
 /// The greatest version of a subject with the schema of a text.

@@ -1,14 +1,14 @@
 // Queries by subject.
 ghost use Rattle.std.specs.Prelude.{◌≡◌, IfOk, IfErr, Ok};
-ghost use Rattle.reg_fold.specs.Entries.{entries};
+ghost use Rattle.reg_modes.specs.reg_fold.Entries.{entries};
 ghost use Rattle.reg_lookup.specs.BySubject as spec;
 ghost use Rattle.reg_lookup.specs.Gives.{IsRefusalOf};
 
 use crate::bodies::{entry_body, subjects_body, versions_body};
 use crate::error::LookupError;
 use crate::found::{counted, version_found};
-use base_text::Text;
-use reg_fold::{Registry, VersionRef};
+use reg_modes::base_text::Text;
+use reg_modes::reg_fold::{Registry, VersionRef};
 use std::alloc::{AllocError, Global};
 
 /// The list of a subject's versions that count.

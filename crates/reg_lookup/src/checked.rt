@@ -1,14 +1,14 @@
 // The query whether a schema may follow.
 ghost use Rattle.std.specs.Prelude.{◌≡◌, ℕ, List, Option, IfOk, IfErr, None, Ok, map};
-ghost use Rattle.avro_schema.specs.Schema.{schema_of};
+ghost use Rattle.reg_modes.specs.avro_schema.Schema.{schema_of};
 ghost use Rattle.reg_levels.specs.RequiredPairs.{HasRisingVersions};
 ghost use Rattle.reg_levels.specs.Judgement.{first_unread};
 ghost use Rattle.reg_levels.specs.LevelVerdict.{IsLevelVerdict};
 ghost use Rattle.reg_levels.specs.Message.{message_of};
 ghost use Rattle.reg_levels.specs.Texts.{VersionText, IsVerdictOfTexts, versions_in};
-ghost use Rattle.reg_set.specs.Records.{Records};
-ghost use Rattle.reg_fold.specs.Entries.{entries};
-ghost use Rattle.reg_fold.specs.declared.version_ref.VersionRef.{VersionRef};
+ghost use Rattle.reg_modes.specs.reg_set.Records.{Records};
+ghost use Rattle.reg_modes.specs.reg_fold.Entries.{entries};
+ghost use Rattle.reg_modes.specs.reg_fold.declared.version_ref.VersionRef.{VersionRef};
 ghost use Rattle.reg_lookup.specs.Answers.{IsAnswer};
 ghost use Rattle.reg_lookup.specs.Bodies as bodies;
 ghost use Rattle.reg_lookup.specs.Checked.{AreRead, asked_on, checked_on, olds_of, read_sound_schema, TellsVerdict};
@@ -19,12 +19,12 @@ use crate::answered::{Answer, answer_of};
 use crate::bodies::check_body;
 use crate::error::LookupError;
 use crate::found::version_found;
-use avro_schema::Schema;
-use base_text::{Listed, Text};
-use reg_entries::texts_of;
-use reg_fold::{Refusal, Registry, VersionRef, entries_are_read, found_entries_stand};
-use reg_level_names::Level;
 use reg_levels::{LevelVerdict, check_read_texts, copy_of, lend_texts, looked_at};
+use reg_modes::avro_schema::Schema;
+use reg_modes::base_text::{Listed, Text};
+use reg_modes::reg_entries::texts_of;
+use reg_modes::reg_fold::{Refusal, Registry, VersionRef, entries_are_read, found_entries_stand};
+use reg_modes::reg_level_names::Level;
 use std::alloc::{AllocError, Global};
 use std::marker::Model;
 

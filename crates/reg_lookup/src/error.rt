@@ -1,5 +1,5 @@
 // Why a part of a lookup gives nothing.
-use reg_fold::Refusal;
+use reg_modes::reg_fold::Refusal;
 use std::alloc::AllocError;
 
 /// Why a part of a lookup gives nothing.

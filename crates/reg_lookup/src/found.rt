@@ -1,11 +1,11 @@
 // What is found among the entries, or why nothing is.
 ghost use Rattle.std.specs.Prelude.{◌≡◌, IfOk, IfErr, map, Ok};
-ghost use Rattle.reg_fold.specs.Entries.{entries};
+ghost use Rattle.reg_modes.specs.reg_fold.Entries.{entries};
 ghost use Rattle.reg_lookup.specs.Found as spec;
 ghost use Rattle.reg_lookup.specs.Gives.{IsRefusalOf};
 
 use crate::error::LookupError;
-use reg_fold::{Entry, Refusal, Registry, VersionRef};
+use reg_modes::reg_fold::{Entry, Refusal, Registry, VersionRef};
 
 /// The entries of a subject that count, by version: the live ones, and where `deleted` is true all.
 /// Refused where none does.

@@ -2,7 +2,7 @@
 ghost use Rattle.std.specs.Prelude.{◌≡◌, ◌++◌, ◌∷◌, [], ℕ, List, IsTrue, OnOk, Some, string_bytes, option_copied};
 ghost use Rattle.json.specs.Print.{escape, escape_byte, quoted as spec_quoted};
 
-use reg_records::quoted;
+use reg_modes::reg_records::quoted;
 use std::alloc::{AllocError, Global};
 use std::fmt;
 

@@ -1,6 +1,6 @@
 // Queries.
-use base_text::Text;
-use reg_fold::VersionRef;
+use reg_modes::base_text::Text;
+use reg_modes::reg_fold::VersionRef;
 
 /// What is asked of a registry. Where `deleted` is true, soft-deleted versions count as live ones.
 #[derive(Debug, Drop, PartialEq, Eq)]

@@ -5,9 +5,9 @@ ghost use Rattle.reg_lookup.specs.Gives.{IsRefusalOf};
 
 use crate::bodies::{level_body, mode_body};
 use crate::error::LookupError;
-use base_text::Text;
-use reg_fold::{Refusal, Registry};
-use reg_level_names::Level;
+use reg_modes::base_text::Text;
+use reg_modes::reg_fold::{Refusal, Registry};
+use reg_modes::reg_level_names::Level;
 use reg_modes::{Mode, mode_in_force, own_mode};
 use std::alloc::Global;
 

@@ -1,7 +1,7 @@
 -- The mode in force. Below, rs are the last records, and a scope is a subject, or None for all subjects.
 use Rattle.std.specs.Prelude.{Option, None, option_map, unwrap_or}
 use Rattle.std.specs.Option.{option_or}
-use Rattle.reg_set.specs.Records.{Records}
+use Rattle.reg_fold.specs.reg_set.Records.{Records}
 use Rattle.reg_fold.specs.InForce.{Scope, own_mode_name}
 use Rattle.reg_modes.specs.Mode.{standing_mode}
 use Rattle.reg_modes.specs.declared.mode.Mode.{Mode}

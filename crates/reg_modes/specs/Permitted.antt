@@ -1,11 +1,11 @@
 -- What a mode permits: nothing is said, or why not.
 use Rattle.std.specs.Prelude.{Bool, true, false, ◌&&◌, not, Result, Ok, Err, if◌then◌else◌}
-use Rattle.reg_entries.specs.Sought.{has_live}
-use Rattle.reg_refusals.specs.declared.reason.Reason.{Reason}
-use Rattle.reg_refusals.specs.declared.reason.Reason.TheVariants as reasons
-use Rattle.reg_refusals.specs.declared.refusal.Refusal.{Refusal}
-use Rattle.reg_refusals.specs.declared.refusal.Refusal.TheVariants.{NotPermitted}
-use Rattle.reg_set.specs.Records.{Records}
+use Rattle.reg_fold.specs.reg_entries.Sought.{has_live}
+use Rattle.reg_fold.specs.reg_refusals.declared.reason.Reason.{Reason}
+use Rattle.reg_fold.specs.reg_refusals.declared.reason.Reason.TheVariants as reasons
+use Rattle.reg_fold.specs.reg_refusals.declared.refusal.Refusal.{Refusal}
+use Rattle.reg_fold.specs.reg_refusals.declared.refusal.Refusal.TheVariants.{NotPermitted}
+use Rattle.reg_fold.specs.reg_set.Records.{Records}
 use Rattle.reg_fold.specs.Entries.{entries}
 use Rattle.reg_fold.specs.InForce.{Scope}
 use Rattle.reg_modes.specs.declared.mode.Mode.{Mode}

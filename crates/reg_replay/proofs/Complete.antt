@@ -1,35 +1,35 @@
 -- No batch that a command writes is missed: command by command.
 use Rattle.std.proofs.Common.{◌≡◌, ℕ, suc, Bool, true, false, cond, List, [], ◌∷◌, map, Option, Some, None, is_some, option_map, ◌++◌, ◌==◌}
 use Rattle.std.proofs.Common.{refl, sym, ap, subst, ◌∙◌}
-use Rattle.avro_schema.specs.Schema.{Meaning, schema_of, is_schema}
-use Rattle.reg_entries.specs.Sought.{has_live, has_schema, newest, texts_of}
-use Rattle.reg_entries.specs.declared.entry.Entry.{Entry}
+use Rattle.reg_leader.specs.avro_schema.Schema.{Meaning, schema_of, is_schema}
+use Rattle.reg_leader.specs.reg_entries.Sought.{has_live, has_schema, newest, texts_of}
+use Rattle.reg_leader.specs.reg_entries.declared.entry.Entry.{Entry}
 use Rattle.std.specs.List.{filter}
-use Rattle.reg_fold.specs.Entries.{EntriesAreInLimits, EntriesAreOfPlaces, EntriesAreRead, entries}
-use Rattle.reg_fold.specs.InForce.{Scope, level, own_level}
-use Rattle.reg_fold.specs.Standing.{greatest_version, live, version_in}
-use Rattle.reg_fold.specs.declared.version_ref.VersionRef.{VersionRef}
-use Rattle.reg_fold.specs.declared.version_ref.VersionRef.TheVariants.{Number}
-use Rattle.reg_level_names.specs.Level.{level_text}
-use Rattle.reg_level_names.specs.declared.level.Level.{Level}
-use Rattle.reg_modes.specs.InForce.{mode, own_mode}
-use Rattle.reg_modes.specs.Mode.{mode_text}
-use Rattle.reg_modes.specs.Permitted.{granted, may_register, may_write}
-use Rattle.reg_modes.specs.declared.mode.Mode.{Mode}
-use Rattle.reg_modes.specs.declared.mode.Mode.TheVariants as modes
-use Rattle.reg_records.specs.Written.{IsVersionOrId}
-use Rattle.reg_records.specs.declared.key.Key.TheVariants as keys
-use Rattle.reg_records.specs.declared.record.Record.{Record}
-use Rattle.reg_records.specs.declared.value.Value.TheVariants as values
-use Rattle.reg_refusals.specs.declared.reason.Reason.TheVariants as reasons
-use Rattle.reg_refusals.specs.declared.refusal.Refusal.TheVariants as refusals
-use Rattle.reg_rules.specs.Standing.{id_for, is_of, next_version, standing, version_meant}
-use Rattle.reg_rules.specs.Tests as test
-use Rattle.reg_rules.specs.Tests.{refuse_if, refuse_unless}
-use Rattle.reg_rules.specs.Writings.{deleted_again, deleted_up_to, level_cleared, level_set, mode_cleared, mode_set, no_operation, numbered, removed, version_of, written_at}
-use Rattle.reg_rules.specs.declared.writing.Writing.{Writing}
-use Rattle.reg_set.specs.LastRecords.{last_records}
-use Rattle.reg_set.specs.Records.{Records}
+use Rattle.reg_leader.specs.reg_fold.Entries.{EntriesAreInLimits, EntriesAreOfPlaces, EntriesAreRead, entries}
+use Rattle.reg_leader.specs.reg_fold.InForce.{Scope, level, own_level}
+use Rattle.reg_leader.specs.reg_fold.Standing.{greatest_version, live, version_in}
+use Rattle.reg_leader.specs.reg_fold.declared.version_ref.VersionRef.{VersionRef}
+use Rattle.reg_leader.specs.reg_fold.declared.version_ref.VersionRef.TheVariants.{Number}
+use Rattle.reg_leader.specs.reg_level_names.Level.{level_text}
+use Rattle.reg_leader.specs.reg_level_names.declared.level.Level.{Level}
+use Rattle.reg_leader.specs.reg_modes.InForce.{mode, own_mode}
+use Rattle.reg_leader.specs.reg_modes.Mode.{mode_text}
+use Rattle.reg_leader.specs.reg_modes.Permitted.{granted, may_register, may_write}
+use Rattle.reg_leader.specs.reg_modes.declared.mode.Mode.{Mode}
+use Rattle.reg_leader.specs.reg_modes.declared.mode.Mode.TheVariants as modes
+use Rattle.reg_leader.specs.reg_records.Written.{IsVersionOrId}
+use Rattle.reg_leader.specs.reg_records.declared.key.Key.TheVariants as keys
+use Rattle.reg_leader.specs.reg_records.declared.record.Record.{Record}
+use Rattle.reg_leader.specs.reg_records.declared.value.Value.TheVariants as values
+use Rattle.reg_leader.specs.reg_refusals.declared.reason.Reason.TheVariants as reasons
+use Rattle.reg_leader.specs.reg_refusals.declared.refusal.Refusal.TheVariants as refusals
+use Rattle.reg_leader.specs.reg_rules.Standing.{id_for, is_of, next_version, standing, version_meant}
+use Rattle.reg_leader.specs.reg_rules.Tests as test
+use Rattle.reg_leader.specs.reg_rules.Tests.{refuse_if, refuse_unless}
+use Rattle.reg_leader.specs.reg_rules.Writings.{deleted_again, deleted_up_to, level_cleared, level_set, mode_cleared, mode_set, no_operation, numbered, removed, version_of, written_at}
+use Rattle.reg_leader.specs.reg_rules.declared.writing.Writing.{Writing}
+use Rattle.reg_leader.specs.reg_set.LastRecords.{last_records}
+use Rattle.reg_leader.specs.reg_set.Records.{Records}
 use Rattle.reg_leader.specs.Course.{Course, Does, ◌▸◌}
 use Rattle.reg_leader.specs.Step.{IsStep, course_of, delete_all, delete_entry, import_as, is_there, mark_over, marked, writes}
 use Rattle.reg_leader.specs.declared.command.Command.{Command}

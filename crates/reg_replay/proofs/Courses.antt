@@ -1,14 +1,14 @@
 -- What a course tells that wrote something.
 use Rattle.std.proofs.Common.{◌≡◌, inl, inr, ℕ, suc, ◌+◌, Bool, true, false, nat_le, List, [], ◌∷◌, length}
 use Rattle.std.proofs.Common.{Option, Some, None, Ok, Err, refl, sym, ap, subst, ◌∙◌}
-use Rattle.reg_levels.specs.Texts.{VersionText, TextsMeet}
-use Rattle.reg_level_names.specs.declared.level.Level.{Level}
-use Rattle.reg_modes.specs.Permitted.{Permit, granted}
-use Rattle.reg_records.specs.declared.limits.TheConstants.{OFFSET_LIMIT}
-use Rattle.reg_records.specs.declared.record.Record.{Record}
-use Rattle.reg_refusals.specs.declared.refusal.Refusal.{Refusal}
-use Rattle.reg_rules.specs.Writings.{numbered}
-use Rattle.reg_rules.specs.declared.writing.Writing.{Writing}
+use Rattle.reg_leader.specs.reg_levels.Texts.{VersionText, TextsMeet}
+use Rattle.reg_leader.specs.reg_level_names.declared.level.Level.{Level}
+use Rattle.reg_leader.specs.reg_modes.Permitted.{Permit, granted}
+use Rattle.reg_leader.specs.reg_records.declared.limits.TheConstants.{OFFSET_LIMIT}
+use Rattle.reg_leader.specs.reg_records.declared.record.Record.{Record}
+use Rattle.reg_leader.specs.reg_refusals.declared.refusal.Refusal.{Refusal}
+use Rattle.reg_leader.specs.reg_rules.Writings.{numbered}
+use Rattle.reg_leader.specs.reg_rules.declared.writing.Writing.{Writing}
 use Rattle.reg_leader.specs.Course.{Course, Refused, Does, IfMet, IsOutcome, ◌▸◌, where_found, if_offsets_last}
 use Rattle.reg_leader.specs.declared.reply.Reply.{Reply}
 

@@ -9,19 +9,19 @@ use Rattle.std.specs.List.{filter, list_any, reduce}
 use Rattle.std.specs.Option.{option_map_or}
 use Rattle.std.specs.Ordering.{is_lt, nat_cmp, on, ord_max}
 use Rattle.std.specs.declared.cmp.Ordering.{Ordering}
-use Rattle.reg_entries.specs.Sought as sought
-use Rattle.reg_entries.specs.declared.entry.Entry.{Entry}
-use Rattle.reg_fold.specs.Entries.{EntriesAreInLimits, EntriesAreOfPlaces, entries}
-use Rattle.reg_fold.specs.Standing.{greatest_version, version_in}
-use Rattle.reg_fold.specs.declared.version_ref.VersionRef.{VersionRef}
-use Rattle.reg_fold.specs.declared.version_ref.VersionRef.TheVariants.{Latest, Number}
-use Rattle.reg_modes.specs.Permitted.{granted}
-use Rattle.reg_records.specs.Written.{IsVersionOrId}
-use Rattle.reg_refusals.specs.declared.refusal.Refusal.{Refusal}
-use Rattle.reg_rules.specs.Tests.{refuse_if}
-use Rattle.reg_rules.specs.Standing.{next_version, standing, version_meant}
-use Rattle.reg_set.specs.LastRecords.{last_records}
-use Rattle.reg_set.specs.Records.{Records}
+use Rattle.reg_leader.specs.reg_entries.Sought as sought
+use Rattle.reg_leader.specs.reg_entries.declared.entry.Entry.{Entry}
+use Rattle.reg_leader.specs.reg_fold.Entries.{EntriesAreInLimits, EntriesAreOfPlaces, entries}
+use Rattle.reg_leader.specs.reg_fold.Standing.{greatest_version, version_in}
+use Rattle.reg_leader.specs.reg_fold.declared.version_ref.VersionRef.{VersionRef}
+use Rattle.reg_leader.specs.reg_fold.declared.version_ref.VersionRef.TheVariants.{Latest, Number}
+use Rattle.reg_leader.specs.reg_modes.Permitted.{granted}
+use Rattle.reg_leader.specs.reg_records.Written.{IsVersionOrId}
+use Rattle.reg_leader.specs.reg_refusals.declared.refusal.Refusal.{Refusal}
+use Rattle.reg_leader.specs.reg_rules.Tests.{refuse_if}
+use Rattle.reg_leader.specs.reg_rules.Standing.{next_version, standing, version_meant}
+use Rattle.reg_leader.specs.reg_set.LastRecords.{last_records}
+use Rattle.reg_leader.specs.reg_set.Records.{Records}
 
 inside : {X : Type 0} (a b : X) → Some a ≡ Some b → a ≡ b
 inside a b same = cc

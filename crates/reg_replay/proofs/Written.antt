@@ -2,24 +2,24 @@
 use Rattle.std.proofs.Common.{◌≡◌, ℕ, Bool, true, false, cond, Some, is_none, option_and_then}
 use Rattle.std.proofs.Common.{refl, ap, ◌∙◌, nat_le, ◌&&◌}
 use Rattle.std.proofs.lemmas.Bool.{false≢true, leb-true}
-use Rattle.reg_fold.specs.InForce.{Scope}
-use Rattle.reg_level_names.specs.Level.{is_level, level_named, level_text}
-use Rattle.reg_level_names.specs.declared.level.Level.{Level}
-use Rattle.reg_level_names.specs.declared.level.Level.TheVariants as levels
-use Rattle.reg_modes.specs.Mode.{mode_named, mode_text}
-use Rattle.reg_modes.specs.declared.mode.Mode.{Mode}
-use Rattle.reg_modes.specs.declared.mode.Mode.TheVariants as modes
-use Rattle.reg_modes.specs.Permitted.{granted}
-use Rattle.reg_records.specs.Written.{IsVersionOrId, written_value}
-use Rattle.reg_records.specs.declared.limits.TheConstants.{NUMBER_LIMIT}
-use Rattle.reg_refusals.specs.declared.refusal.Refusal.{Refusal}
-use Rattle.reg_rules.specs.Tests.{must_be_number, numbers_used_up, refuse_unless}
-use Rattle.reg_records.specs.declared.key.Key.{Key}
-use Rattle.reg_records.specs.declared.value.Value.{Value}
-use Rattle.reg_records.specs.declared.value.Value.TheVariants as values
-use Rattle.reg_rules.specs.Writings.{written_at}
-use Rattle.reg_values.specs.OfKey.{IsValueOf}
-use Rattle.reg_values.specs.Value.{value_of}
+use Rattle.reg_leader.specs.reg_fold.InForce.{Scope}
+use Rattle.reg_leader.specs.reg_level_names.Level.{is_level, level_named, level_text}
+use Rattle.reg_leader.specs.reg_level_names.declared.level.Level.{Level}
+use Rattle.reg_leader.specs.reg_level_names.declared.level.Level.TheVariants as levels
+use Rattle.reg_leader.specs.reg_modes.Mode.{mode_named, mode_text}
+use Rattle.reg_leader.specs.reg_modes.declared.mode.Mode.{Mode}
+use Rattle.reg_leader.specs.reg_modes.declared.mode.Mode.TheVariants as modes
+use Rattle.reg_leader.specs.reg_modes.Permitted.{granted}
+use Rattle.reg_leader.specs.reg_records.Written.{IsVersionOrId, written_value}
+use Rattle.reg_leader.specs.reg_records.declared.limits.TheConstants.{NUMBER_LIMIT}
+use Rattle.reg_leader.specs.reg_refusals.declared.refusal.Refusal.{Refusal}
+use Rattle.reg_leader.specs.reg_rules.Tests.{must_be_number, numbers_used_up, refuse_unless}
+use Rattle.reg_leader.specs.reg_records.declared.key.Key.{Key}
+use Rattle.reg_leader.specs.reg_records.declared.value.Value.{Value}
+use Rattle.reg_leader.specs.reg_records.declared.value.Value.TheVariants as values
+use Rattle.reg_leader.specs.reg_rules.Writings.{written_at}
+use Rattle.reg_leader.specs.reg_values.OfKey.{IsValueOf}
+use Rattle.reg_leader.specs.reg_values.Value.{value_of}
 use Rattle.reg_replay.specs.Candidate.{candidate_by, putting, removing}
 
 abbrev pub ValuesReadBack : Type 0

@@ -1,17 +1,17 @@
 -- The command that may have written a batch. Below, mode is the mode in force in each scope.
 use Rattle.std.specs.Prelude.{ℕ, List, [], ◌∷◌, Bool, true, false, cond, Option, Some, None, is_none, option_map, option_and_then}
-use Rattle.reg_fold.specs.InForce.{Scope}
-use Rattle.reg_fold.specs.declared.version_ref.VersionRef.TheVariants.{Number}
-use Rattle.reg_level_names.specs.Level.{level_named}
-use Rattle.reg_modes.specs.Mode.{mode_named}
-use Rattle.reg_modes.specs.declared.mode.Mode.{Mode}
-use Rattle.reg_modes.specs.declared.mode.Mode.TheVariants as modes
-use Rattle.reg_records.specs.declared.key.Key.{Key}
-use Rattle.reg_records.specs.declared.key.Key.TheVariants as keys
-use Rattle.reg_records.specs.declared.record.Record.{Record}
-use Rattle.reg_records.specs.declared.value.Value.{Value}
-use Rattle.reg_records.specs.declared.value.Value.TheVariants as values
-use Rattle.reg_values.specs.Value.{value_of}
+use Rattle.reg_leader.specs.reg_fold.InForce.{Scope}
+use Rattle.reg_leader.specs.reg_fold.declared.version_ref.VersionRef.TheVariants.{Number}
+use Rattle.reg_leader.specs.reg_level_names.Level.{level_named}
+use Rattle.reg_leader.specs.reg_modes.Mode.{mode_named}
+use Rattle.reg_leader.specs.reg_modes.declared.mode.Mode.{Mode}
+use Rattle.reg_leader.specs.reg_modes.declared.mode.Mode.TheVariants as modes
+use Rattle.reg_leader.specs.reg_records.declared.key.Key.{Key}
+use Rattle.reg_leader.specs.reg_records.declared.key.Key.TheVariants as keys
+use Rattle.reg_leader.specs.reg_records.declared.record.Record.{Record}
+use Rattle.reg_leader.specs.reg_records.declared.value.Value.{Value}
+use Rattle.reg_leader.specs.reg_records.declared.value.Value.TheVariants as values
+use Rattle.reg_leader.specs.reg_values.Value.{value_of}
 use Rattle.reg_leader.specs.declared.command.Command.{Command}
 use Rattle.reg_leader.specs.declared.command.Command.TheVariants as commands
 

@@ -1,15 +1,15 @@
 // The command that may have written a batch.
 ghost use Rattle.std.specs.Prelude.{◌≡◌, IfOk, option_map};
-ghost use Rattle.reg_modes.specs.InForce.{mode};
+ghost use Rattle.reg_leader.specs.reg_modes.InForce.{mode};
 ghost use Rattle.reg_replay.specs.Candidate as spec;
 
-use base_text::Text;
-use reg_fold::{Registry, VersionRef};
 use reg_leader::Command;
-use reg_level_names::Level;
-use reg_modes::{Mode, mode_in_force};
-use reg_records::{Key, Record, Value};
-use reg_values::decode_value;
+use reg_leader::base_text::Text;
+use reg_leader::reg_fold::{Registry, VersionRef};
+use reg_leader::reg_level_names::Level;
+use reg_leader::reg_modes::{Mode, mode_in_force};
+use reg_leader::reg_records::{Key, Record, Value};
+use reg_leader::reg_values::decode_value;
 use std::alloc::{AllocError, Global};
 
 /// The one command that may have written the batch over this registry; `None` where none can have. Whether it did, only its

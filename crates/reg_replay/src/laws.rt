@@ -1,9 +1,9 @@
 // The law of candidates. What is proved here costs nothing at run time: a function that needs the law calls it.
 ghost use Rattle.reg_replay.specs.Complete.{BatchesAreOfCandidates};
 
-use avro_schema::normal_texts_read_back;
-use reg_fold::{entries_are_in_limits, entries_are_of_places, entries_are_read};
-use reg_values::written_values_read_back;
+use reg_leader::avro_schema::normal_texts_read_back;
+use reg_leader::reg_fold::{entries_are_in_limits, entries_are_of_places, entries_are_read};
+use reg_leader::reg_values::written_values_read_back;
 
 /// Where any command's step writes a batch, the candidate's does too: from the same records, at the same offset, the same batch,
 /// whatever is replied. So a log that commands wrote is never refused for want of a candidate.

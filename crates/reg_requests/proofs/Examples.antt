@@ -6,12 +6,12 @@ use lib.Utf8.{encode}
 use Rattle.matchit.proofs.OnLiterals.{matchit_on_literals}
 use Rattle.form_urlencoded.proofs.OnLiterals.{form_urlencoded_on_literals}
 use Rattle.serde_json.proofs.OnLiterals.{serde_json_on_literals}
-use Rattle.reg_fold.specs.declared.version_ref.VersionRef.TheVariants as versions
+use Rattle.reg_leader.specs.reg_fold.declared.version_ref.VersionRef.TheVariants as versions
 use Rattle.reg_leader.specs.declared.command.Command.TheVariants as commands
 use Rattle.reg_lookup.specs.declared.query.Query.TheVariants as queries
-use Rattle.reg_refusals.specs.declared.allow.Allow.TheVariants as allows
-use Rattle.reg_refusals.specs.declared.reason.Reason.TheVariants as reasons
-use Rattle.reg_refusals.specs.declared.refusal.Refusal.TheVariants as refusals
+use Rattle.reg_leader.specs.reg_refusals.declared.allow.Allow.TheVariants as allows
+use Rattle.reg_leader.specs.reg_refusals.declared.reason.Reason.TheVariants as reasons
+use Rattle.reg_leader.specs.reg_refusals.declared.refusal.Refusal.TheVariants as refusals
 use Rattle.reg_routes.specs.Router.{path_rows, route_of}
 use Rattle.reg_requests.specs.Asked.{asked_of}
 use Rattle.reg_requests.specs.Body.{body_of}

@@ -6,14 +6,14 @@ use Rattle.std.specs.List.{list_all}
 use Rattle.std.specs.Option.{option_map_or}
 use Rattle.std.specs.Str.Parse.{digits_value}
 use Rattle.serde_json.specs.Data.{Data}
-use Rattle.reg_fold.specs.declared.version_ref.VersionRef.{VersionRef}
-use Rattle.reg_fold.specs.declared.version_ref.VersionRef.TheVariants as versions
+use Rattle.reg_leader.specs.reg_fold.declared.version_ref.VersionRef.{VersionRef}
+use Rattle.reg_leader.specs.reg_fold.declared.version_ref.VersionRef.TheVariants as versions
 use Rattle.reg_leader.specs.declared.command.Command.TheVariants as commands
 use Rattle.reg_lookup.specs.declared.query.Query.{Query}
 use Rattle.reg_lookup.specs.declared.query.Query.TheVariants as queries
-use Rattle.reg_records.specs.Json.{within_number_limit}
-use Rattle.reg_refusals.specs.declared.refusal.Refusal.{Refusal}
-use Rattle.reg_refusals.specs.declared.refusal.Refusal.TheVariants as refusals
+use Rattle.reg_leader.specs.reg_records.Json.{within_number_limit}
+use Rattle.reg_leader.specs.reg_refusals.declared.refusal.Refusal.{Refusal}
+use Rattle.reg_leader.specs.reg_refusals.declared.refusal.Refusal.TheVariants as refusals
 use Rattle.reg_requests.specs.Body.{map_ok, schema_in, registration_in, level_in, mode_in}
 use Rattle.reg_requests.specs.declared.asked.Asked.{Asked}
 use Rattle.reg_requests.specs.declared.asked.Asked.TheVariants as asked

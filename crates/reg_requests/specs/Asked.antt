@@ -3,10 +3,10 @@ use Rattle.std.specs.Prelude.{ℕ, List, Bool, true, false, ◌&&◌, ◌||◌, 
 use Rattle.std.specs.Prelude.{None, option_and_then, unwrap_or, is_none, Result, Ok, Err, if◌then◌else◌}
 use Rattle.std.specs.Option.{option_map_or}
 use Rattle.serde_json.specs.Data.{Data, null}
-use Rattle.reg_fold.specs.declared.version_ref.VersionRef.{VersionRef}
+use Rattle.reg_leader.specs.reg_fold.declared.version_ref.VersionRef.{VersionRef}
 use Rattle.reg_messages.specs.Fields.{told_length}
-use Rattle.reg_refusals.specs.declared.refusal.Refusal.{Refusal}
-use Rattle.reg_refusals.specs.declared.refusal.Refusal.TheVariants as refusals
+use Rattle.reg_leader.specs.reg_refusals.declared.refusal.Refusal.{Refusal}
+use Rattle.reg_leader.specs.reg_refusals.declared.refusal.Refusal.TheVariants as refusals
 use Rattle.reg_requests.specs.Action.{Given, version_of, action_asks}
 use Rattle.reg_requests.specs.Body.{body_of}
 use Rattle.reg_requests.specs.Types.{has_accepted_types}

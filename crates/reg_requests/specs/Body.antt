@@ -8,15 +8,15 @@ use Rattle.serde_json.specs.Find.{get, as_number, as_object}
 use Rattle.serde_json.specs.Read.{read}
 use Rattle.reg_leader.specs.declared.command.Command.{Command}
 use Rattle.reg_leader.specs.declared.command.Command.TheVariants as commands
-use Rattle.reg_level_names.specs.Level.{level_named}
-use Rattle.reg_level_names.specs.declared.level.Level.{Level}
-use Rattle.reg_modes.specs.Mode.{mode_named}
-use Rattle.reg_modes.specs.declared.mode.Mode.{Mode}
-use Rattle.reg_records.specs.Json.{is_null, text_at, number_at}
-use Rattle.reg_values.specs.Value.{is_plain_avro}
-use Rattle.reg_refusals.specs.declared.reason.Reason.TheVariants as reasons
-use Rattle.reg_refusals.specs.declared.refusal.Refusal.{Refusal}
-use Rattle.reg_refusals.specs.declared.refusal.Refusal.TheVariants as refusals
+use Rattle.reg_leader.specs.reg_level_names.Level.{level_named}
+use Rattle.reg_leader.specs.reg_level_names.declared.level.Level.{Level}
+use Rattle.reg_leader.specs.reg_modes.Mode.{mode_named}
+use Rattle.reg_leader.specs.reg_modes.declared.mode.Mode.{Mode}
+use Rattle.reg_leader.specs.reg_records.Json.{is_null, text_at, number_at}
+use Rattle.reg_leader.specs.reg_values.Value.{is_plain_avro}
+use Rattle.reg_leader.specs.reg_refusals.declared.reason.Reason.TheVariants as reasons
+use Rattle.reg_leader.specs.reg_refusals.declared.refusal.Refusal.{Refusal}
+use Rattle.reg_leader.specs.reg_refusals.declared.refusal.Refusal.TheVariants as refusals
 
 abbrev pub object_of : Data → Option Data
 object_of d = if is_some (as_object d) then Some d else None

@@ -5,13 +5,13 @@ ghost use Rattle.reg_requests.specs.Seen.{seen};
 
 use crate::asked::Asked;
 use crate::body::{Found, level_in, mode_in, registration_in, schema_in};
-use base_text::Text;
-use reg_fold::VersionRef;
 use reg_leader::Command;
+use reg_leader::base_text::Text;
+use reg_leader::reg_fold::VersionRef;
+use reg_leader::reg_records::{NUMBER_LIMIT, has_only_digits};
+use reg_leader::reg_refusals::Refusal;
 use reg_lookup::Query;
 use reg_messages::digits_value;
-use reg_records::{NUMBER_LIMIT, has_only_digits};
-use reg_refusals::Refusal;
 use reg_routes::{Action, has_switch};
 use serde_json::Value;
 use std::alloc::{AllocError, Global};

@@ -1,7 +1,7 @@
 // What a request asks.
 use reg_leader::Command;
+use reg_leader::reg_refusals::Refusal;
 use reg_lookup::Query;
-use reg_refusals::Refusal;
 
 /// What a request asks, or why it is refused.
 #[derive(Debug, Drop)]

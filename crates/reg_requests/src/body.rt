@@ -4,13 +4,13 @@ ghost use Rattle.serde_json.specs.View.{view};
 ghost use Rattle.reg_requests.specs.Body.{body_of, schema_in, registration_in, registration_of, level_in, mode_in, id_in, version_in, is_left_out, is_minus_one_number, is_no_version};
 ghost use Rattle.reg_requests.specs.Seen.{seen_text};
 
-use base_text::Text;
 use reg_leader::Command;
-use reg_level_names::Level;
-use reg_modes::Mode;
-use reg_records::{number_at, text_at};
-use reg_refusals::{Reason, Refusal};
-use reg_values::is_plain_avro;
+use reg_leader::base_text::Text;
+use reg_leader::reg_level_names::Level;
+use reg_leader::reg_modes::Mode;
+use reg_leader::reg_records::{number_at, text_at};
+use reg_leader::reg_refusals::{Reason, Refusal};
+use reg_leader::reg_values::is_plain_avro;
 use serde_json::Value;
 use std::alloc::{AllocError, Global};
 

@@ -4,8 +4,8 @@ use Rattle.std.specs.Prelude.{Result, Err, ⊤}
 use Rattle.std.specs.IoError.{error_kind}
 use Rattle.std.specs.declared.io.Error.{Error}
 use Rattle.std.specs.declared.io.ErrorKind.TheVariants.{Interrupted}
-use Rattle.reg_records.specs.Device.{inner_of, interruptions_of}
-use Rattle.reg_records.specs.declared.device.Device.{Device}
+use Rattle.reg_leader.specs.reg_records.Device.{inner_of, interruptions_of}
+use Rattle.reg_leader.specs.reg_records.declared.device.Device.{Device}
 use Rattle.reg_responses.specs.Writing.{HasFailed, IsLostBy}
 
 module _ {W : Type 0} (writes : W → List ℕ → Result ℕ Error → W → Type 0) (flushes : W → Result ⊤ Error → W → Type 0) where

@@ -3,11 +3,11 @@ use Rattle.std.proofs.Common.{◌≡◌, ◌∷◌, [], true, false, refl, codes
 use Rattle.std.specs.Fmt.{digits}
 use Rattle.serde_json.proofs.OnLiterals.{serde_json_on_literals}
 use Rattle.reg_leader.specs.declared.reply.Reply.TheVariants as replies
-use Rattle.reg_level_names.specs.declared.level.Level.TheVariants as levels
-use Rattle.reg_modes.specs.declared.mode.Mode.TheVariants as modes
-use Rattle.reg_refusals.specs.declared.allow.Allow.TheVariants as allows
-use Rattle.reg_refusals.specs.declared.reason.Reason.TheVariants as reasons
-use Rattle.reg_refusals.specs.declared.refusal.Refusal.TheVariants as refusals
+use Rattle.reg_leader.specs.reg_level_names.declared.level.Level.TheVariants as levels
+use Rattle.reg_leader.specs.reg_modes.declared.mode.Mode.TheVariants as modes
+use Rattle.reg_leader.specs.reg_refusals.declared.allow.Allow.TheVariants as allows
+use Rattle.reg_leader.specs.reg_refusals.declared.reason.Reason.TheVariants as reasons
+use Rattle.reg_leader.specs.reg_refusals.declared.refusal.Refusal.TheVariants as refusals
 use Rattle.reg_responses.specs.Reply.{reply_answer}
 use Rattle.reg_responses.specs.Response.{answer_text, head_text, memory_text, phrase_of, refusal_text, response_text}
 

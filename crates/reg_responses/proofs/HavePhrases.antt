@@ -2,9 +2,9 @@
 use Rattle.std.proofs.Common.{◌≡◌, ℕ, List, refl, subst, sym}
 use Rattle.std.specs.Prelude.{Bool, Some, Result, Ok, Err}
 use Rattle.reg_leader.specs.declared.reply.Reply.TheVariants as replies
-use Rattle.reg_level_names.specs.declared.level.Level.{Level}
-use Rattle.reg_levels.specs.Message.{message_of}
-use Rattle.reg_levels.specs.Texts.{VersionText}
+use Rattle.reg_leader.specs.reg_level_names.declared.level.Level.{Level}
+use Rattle.reg_leader.specs.reg_levels.Message.{message_of}
+use Rattle.reg_leader.specs.reg_levels.Texts.{VersionText}
 use Rattle.reg_lookup.specs.Bodies.{answer_with, check_body}
 use Rattle.reg_lookup.specs.ById.{schema_by_id, id_versions}
 use Rattle.reg_lookup.specs.BySchema.{lookup}
@@ -13,13 +13,13 @@ use Rattle.reg_lookup.specs.Checked.{TellsVerdict, asked}
 use Rattle.reg_lookup.specs.Settings.{level_found, mode_found}
 use Rattle.reg_lookup.specs.declared.answered.Answer.{Answer}
 use Rattle.reg_lookup.specs.declared.query.Query.TheVariants as queries
-use Rattle.reg_fold.specs.Entries.{entries}
-use Rattle.reg_fold.specs.InForce.{level}
-use Rattle.reg_refusals.specs.Refusal.{status_of}
-use Rattle.reg_refusals.specs.declared.reason.StoreFault.{StoreFault}
-use Rattle.reg_refusals.specs.declared.reason.StoreFault.TheVariants as faults
-use Rattle.reg_refusals.specs.declared.refusal.Refusal.{Refusal}
-use Rattle.reg_refusals.specs.declared.refusal.Refusal.TheVariants as refusals
+use Rattle.reg_leader.specs.reg_fold.Entries.{entries}
+use Rattle.reg_leader.specs.reg_fold.InForce.{level}
+use Rattle.reg_leader.specs.reg_refusals.Refusal.{status_of}
+use Rattle.reg_leader.specs.reg_refusals.declared.reason.StoreFault.{StoreFault}
+use Rattle.reg_leader.specs.reg_refusals.declared.reason.StoreFault.TheVariants as faults
+use Rattle.reg_leader.specs.reg_refusals.declared.refusal.Refusal.{Refusal}
+use Rattle.reg_leader.specs.reg_refusals.declared.refusal.Refusal.TheVariants as refusals
 use Rattle.reg_responses.specs.Phrases.{AnswersHavePhrases, HasPhrase, RefusalsHavePhrases, RepliesHavePhrases}
 use Rattle.reg_responses.specs.Reply.{reply_answer}
 

@@ -7,8 +7,8 @@ use Rattle.std.specs.Io.KnownBytes.{Appends}
 use Rattle.std.proofs.KnownBytes.{Appends-trans}
 use Rattle.std.proofs.lemmas.Grind.{flat_map-append}
 use Rattle.std.proofs.lemmas.List.{append_assoc, drop-take}
-use Rattle.reg_records.specs.Device.{all_interruptions_of, bytes_in, counted, counted_by, faults_of, inner_of, interruptions_of}
-use Rattle.reg_records.specs.declared.device.Device.{Device}
+use Rattle.reg_leader.specs.reg_records.Device.{all_interruptions_of, bytes_in, counted, counted_by, faults_of, inner_of, interruptions_of}
+use Rattle.reg_leader.specs.reg_records.declared.device.Device.{Device}
 use Rattle.reg_responses.specs.Writing.{AppendsFront, HasFront, HasWritten, IsLostSince, LosesWriter, Writes}
 
 Appends-nothing : (known : Option (List ℕ)) → Appends known known []

@@ -5,9 +5,9 @@ use Rattle.reg_leader.specs.declared.reply.Reply.{Reply}
 use Rattle.reg_lookup.specs.Answers.{IsAnswer}
 use Rattle.reg_lookup.specs.declared.answered.Answer.{Answer}
 use Rattle.reg_lookup.specs.declared.query.Query.{Query}
-use Rattle.reg_refusals.specs.Refusal.{status_of}
-use Rattle.reg_refusals.specs.declared.refusal.Refusal.{Refusal}
-use Rattle.reg_set.specs.Records.{Records}
+use Rattle.reg_leader.specs.reg_refusals.Refusal.{status_of}
+use Rattle.reg_leader.specs.reg_refusals.declared.refusal.Refusal.{Refusal}
+use Rattle.reg_leader.specs.reg_set.Records.{Records}
 use Rattle.reg_responses.specs.Reply.{reply_answer}
 
 abbrev pub HasPhrase : ℕ → Type 0

@@ -4,12 +4,12 @@ use Rattle.serde_json.specs.Data.{string, object, member, no_members}
 use Rattle.serde_json.specs.Written.{compact_text}
 use Rattle.reg_leader.specs.declared.reply.Reply.{Reply}
 use Rattle.reg_leader.specs.declared.reply.Reply.TheVariants as replies
-use Rattle.reg_level_names.specs.Level.{level_text}
+use Rattle.reg_leader.specs.reg_level_names.Level.{level_text}
 use Rattle.reg_lookup.specs.Bodies.{answer_with, level_body, list_body, mode_body, number_data}
 use Rattle.reg_lookup.specs.declared.answered.Answer.{Answer}
-use Rattle.reg_modes.specs.Mode.{mode_text}
-use Rattle.reg_refusals.specs.declared.reason.StoreFault.TheVariants as faults
-use Rattle.reg_refusals.specs.declared.refusal.Refusal.TheVariants as refusals
+use Rattle.reg_leader.specs.reg_modes.Mode.{mode_text}
+use Rattle.reg_leader.specs.reg_refusals.declared.reason.StoreFault.TheVariants as faults
+use Rattle.reg_leader.specs.reg_refusals.declared.refusal.Refusal.TheVariants as refusals
 
 abbrev pub id_body : ℕ → List ℕ
 id_body id = compact_text (object (member (codes "id") (number_data id) no_members))

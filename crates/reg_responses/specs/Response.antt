@@ -3,11 +3,11 @@ use Rattle.std.specs.Prelude.{ℕ, List, [], ◌++◌, Bool, length, codes, deci
 use Rattle.http.specs.StatusCode.{reason_phrase}
 use Rattle.reg_lookup.specs.Bodies.{answer_with}
 use Rattle.reg_lookup.specs.declared.answered.Answer.{Answer}
-use Rattle.reg_refusals.specs.Allow.{allow_text}
-use Rattle.reg_refusals.specs.Refusal.{no_memory}
-use Rattle.reg_refusals.specs.declared.allow.Allow.{Allow}
-use Rattle.reg_refusals.specs.declared.refusal.Refusal.{Refusal}
-use Rattle.reg_refusals.specs.declared.refusal.Refusal.TheVariants.{MethodNotAllowed}
+use Rattle.reg_leader.specs.reg_refusals.Allow.{allow_text}
+use Rattle.reg_leader.specs.reg_refusals.Refusal.{no_memory}
+use Rattle.reg_leader.specs.reg_refusals.declared.allow.Allow.{Allow}
+use Rattle.reg_leader.specs.reg_refusals.declared.refusal.Refusal.{Refusal}
+use Rattle.reg_leader.specs.reg_refusals.declared.refusal.Refusal.TheVariants.{MethodNotAllowed}
 
 -- the phrase of a status (RFC 9110); a number that no status has is without one
 unfoldable pub phrase_of : ℕ → List ℕ

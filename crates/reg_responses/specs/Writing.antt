@@ -4,8 +4,8 @@ use Rattle.std.specs.Io.KnownBytes.{Appends}
 use Rattle.std.specs.IoError.{error_kind}
 use Rattle.std.specs.declared.io.Error.{Error}
 use Rattle.std.specs.declared.io.ErrorKind.TheVariants.{Interrupted}
-use Rattle.reg_records.specs.Device.{IsInterruptedMore, KeepsInterruptions, bytes_in, counted, faults_of, inner_of, interruptions_of}
-use Rattle.reg_records.specs.declared.device.Device.{Device}
+use Rattle.reg_leader.specs.reg_records.Device.{IsInterruptedMore, KeepsInterruptions, bytes_in, counted, faults_of, inner_of, interruptions_of}
+use Rattle.reg_leader.specs.reg_records.declared.device.Device.{Device}
 use Rattle.reg_responses.specs.declared.limits.TheConstants.{INTERRUPTION_LIMIT}
 
 -- one fault was counted, by the last call; or none was, and the writer was interrupted as often in a row as may be

@@ -6,7 +6,7 @@ ghost use Rattle.reg_responses.specs.Reply.{id_body, member_body, reply_answer};
 
 use crate::pieces::Piece;
 use reg_leader::Reply;
-use reg_refusals::{Refusal, StoreFault};
+use reg_leader::reg_refusals::{Refusal, StoreFault};
 
 /// The status and the body of the answer to a reply. The last pieces are empty where fewer do.
 #[tactic(auto, unfolding(crate::specs::Reply::reply_answer))]

@@ -3,8 +3,8 @@ ghost use Rattle.std.specs.Prelude.{◌≡◌, ◌++◌, IfOk, OnOk, decimal, st
 ghost use Rattle.reg_responses.specs.Pieces.{listed, listed_more, piece_text, pieces_text};
 
 use crate::pieces::Piece;
-use base_text::Text;
-use reg_records::quoted;
+use reg_leader::base_text::Text;
+use reg_leader::reg_records::quoted;
 use std::alloc::{AllocError, Global};
 use std::fmt::Write;
 

@@ -2,13 +2,13 @@
 ghost use Rattle.std.specs.Char.{digit_char};
 ghost use Rattle.std.specs.Prelude.{◌≡◌, ◌≤◌, ◌<◌, ◌^◌, ◌∷◌, ◌++◌, OnErr, length, take, decimal};
 ghost use Rattle.json.specs.Print.{escape, escape_byte, escape_letter, quoted};
-ghost use Rattle.reg_records.specs.Device.{interruptions_of};
+ghost use Rattle.reg_leader.specs.reg_records.Device.{interruptions_of};
 ghost use Rattle.reg_responses.specs.Pieces.{piece_text, pieces_text, listed, listed_more};
 ghost use Rattle.reg_responses.specs.Writing.{IsLostBy, Writes};
 
 use crate::writing::{WriteFault, write_bytes};
 use itoa::Buffer;
-use reg_records::{Device, Output};
+use reg_leader::reg_records::{Device, Output};
 
 /// A piece of a response.
 #[derive(Clone, Copy)]

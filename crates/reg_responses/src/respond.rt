@@ -8,9 +8,9 @@ use crate::bodies::{refusal_pieces, reply_pieces};
 use crate::pieces::Piece;
 use crate::writing::{WriteFault, write_response, write_whole};
 use reg_leader::Reply;
+use reg_leader::reg_records::{Device, Output};
+use reg_leader::reg_refusals::{Allow, Refusal};
 use reg_lookup::Answer;
-use reg_records::{Device, Output};
-use reg_refusals::{Allow, Refusal};
 
 /// Writes the response that gives an answer, and flushes it. It tells whether the server closes the
 /// connection after it.

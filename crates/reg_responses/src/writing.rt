@@ -1,7 +1,7 @@
 // Writing texts and responses whole.
 ghost use Rattle.std.specs.Prelude.{◌≡◌, ◌<◌, ◌≤◌, [], ◌++◌, OnErr, IfOk, length, take};
 ghost use Rattle.std.specs.Io.KnownBytes.{Keeps};
-ghost use Rattle.reg_records.specs.Device.{bytes_in, faults_of, interruptions_of};
+ghost use Rattle.reg_leader.specs.reg_records.Device.{bytes_in, faults_of, interruptions_of};
 ghost use Rattle.reg_responses.specs.Pieces.{pieces_text};
 ghost use Rattle.reg_responses.specs.Response.{head_text, phrase_of, response_text, allow_field, closing_field};
 ghost use Rattle.reg_responses.specs.Writing.{Ends, HasWritten, IsLostBy, IsLostSince, LosesWriter, Writes};
@@ -9,8 +9,8 @@ ghost use Rattle.reg_responses.specs.Writing.{Ends, HasWritten, IsLostBy, IsLost
 use crate::limits::INTERRUPTION_LIMIT;
 use crate::pieces::{Piece, pieces_len, write_pieces};
 use http::StatusCode;
-use reg_records::{Device, Output};
-use reg_refusals::Allow;
+use reg_leader::reg_records::{Device, Output};
+use reg_leader::reg_refusals::Allow;
 use std::io::{ErrorKind, Write};
 
 /// The writer failed, or was interrupted too often in a row.

@@ -3,13 +3,13 @@ use Rattle.std.proofs.Common.{◌≡◌, ℕ, Bool, true, false, cond, ◌&&◌,
 use Rattle.std.proofs.lemmas.Bool.{false≢true}
 use Rattle.std.specs.List.{AllByRecursion, filter, reduce}
 use Rattle.std.specs.Prelude.{bytes_eq}
-use Rattle.reg_entries.specs.Sought.{counts, has_schema, newest}
-use Rattle.reg_entries.specs.declared.entry.Entry.{Entry}
-use Rattle.reg_fold.specs.Closed.{id_of}
-use Rattle.reg_fold.specs.Entries.{entries}
-use Rattle.reg_fold.specs.Standing.{live}
+use Rattle.reg_modes.specs.reg_entries.Sought.{counts, has_schema, newest}
+use Rattle.reg_modes.specs.reg_entries.declared.entry.Entry.{Entry}
+use Rattle.reg_modes.specs.reg_fold.Closed.{id_of}
+use Rattle.reg_modes.specs.reg_fold.Entries.{entries}
+use Rattle.reg_modes.specs.reg_fold.Standing.{live}
 use Rattle.reg_rules.specs.Standing.{is_of}
-use Rattle.reg_set.specs.Records.{Records}
+use Rattle.reg_modes.specs.reg_set.Records.{Records}
 
 none_least : (es : List Entry) → reduce min (map (λ e. e.id) es) ≡ None → es ≡ []
 none_least [] none = refl

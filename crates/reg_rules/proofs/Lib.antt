@@ -3,3 +3,4 @@ pub mod LookedAt
 pub mod Newest
 pub mod Numbering
 pub mod Verdicts
+pub use Rattle.reg_modes.proofs.reg_records_proofs

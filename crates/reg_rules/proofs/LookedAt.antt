@@ -10,12 +10,12 @@ use Rattle.std.specs.Option.{option_to_list}
 use Rattle.std.specs.Ordering.{is_lt, nat_cmp, on, ord_max, ordering_reverse}
 use Rattle.std.specs.declared.cmp.Ordering.{Ordering}
 use Rattle.std.specs.declared.cmp.Ordering.TheVariants.{Less}
-use Rattle.avro_schema.specs.Schema.{is_schema}
-use Rattle.avro_schema.specs.declared.node.Node.{Node}
-use Rattle.reg_entries.specs.Sought.{AreInVersionOrder, newest, texts_of}
-use Rattle.reg_entries.specs.declared.entry.Entry.{Entry}
-use Rattle.reg_level_names.specs.declared.level.Level.{Level}
-use Rattle.reg_level_names.specs.declared.level.Level.TheVariants as levels
+use Rattle.reg_modes.specs.avro_schema.Schema.{is_schema}
+use Rattle.reg_modes.specs.avro_schema.declared.node.Node.{Node}
+use Rattle.reg_modes.specs.reg_entries.Sought.{AreInVersionOrder, newest, texts_of}
+use Rattle.reg_modes.specs.reg_entries.declared.entry.Entry.{Entry}
+use Rattle.reg_modes.specs.reg_level_names.declared.level.Level.{Level}
+use Rattle.reg_modes.specs.reg_level_names.declared.level.Level.TheVariants as levels
 use Rattle.reg_levels.specs.Judgement.{first_unread}
 use Rattle.reg_levels.specs.LevelVerdict.{IsCompatible, IsVerdictOn}
 use Rattle.reg_levels.specs.RequiredPairs.{looked_at, passed_over, required_of, required_pairs}

@@ -6,9 +6,9 @@ use Rattle.std.specs.Option.{option_map_or}
 use Rattle.std.proofs.lemmas.List.Elements.{filter_more}
 use Rattle.std.proofs.lemmas.List.Sums.{fold_push}
 use Rattle.std.proofs.lemmas.List.{append-nil, get_or-map, length-map}
-use Rattle.reg_entries.specs.declared.entry.Entry.{Entry}
+use Rattle.reg_modes.specs.reg_entries.declared.entry.Entry.{Entry}
 use Rattle.reg_rules.specs.Better.{better}
-use Rattle.reg_entries.specs.Sought.{newest}
+use Rattle.reg_modes.specs.reg_entries.Sought.{newest}
 
 reduce_push : {A : Type 0} (f : A → A → A) (xs : List A) (x : A)
     → reduce f (xs ++ x ∷ []) ≡ Some (option_map_or (λ a. f a x) (reduce f xs) x)

@@ -3,19 +3,19 @@ use Rattle.std.proofs.Common.{◌≡◌, ℕ, List, [], ◌∷◌, true, false, 
 use Rattle.std.proofs.Common.{All, Contains, option_map, bytes_eq, refl, sym, ap, subst, ◌∙◌, inl, inr}
 use Rattle.std.proofs.lemmas.List.Elements.{All-nil, All-cons, All-head, All-tail, All-weaker, All-filter, All-contains_itself}
 use Rattle.std.specs.List.{find}
-use Rattle.avro_schema.specs.Schema.{Meaning, schema_of, is_schema}
-use Rattle.reg_entries.specs.Sought.{counts, of_subject, texts_of}
-use Rattle.reg_entries.specs.declared.entry.Entry.{Entry}
-use Rattle.reg_fold.specs.Entries.{EntriesAreRead, entries}
-use Rattle.reg_fold.specs.Standing.{live}
-use Rattle.reg_level_names.specs.declared.level.Level.{Level}
+use Rattle.reg_modes.specs.avro_schema.Schema.{Meaning, schema_of, is_schema}
+use Rattle.reg_modes.specs.reg_entries.Sought.{counts, of_subject, texts_of}
+use Rattle.reg_modes.specs.reg_entries.declared.entry.Entry.{Entry}
+use Rattle.reg_modes.specs.reg_fold.Entries.{EntriesAreRead, entries}
+use Rattle.reg_modes.specs.reg_fold.Standing.{live}
+use Rattle.reg_modes.specs.reg_level_names.declared.level.Level.{Level}
 use Rattle.reg_levels.specs.Judgement.{IsMadeOf, IsTrueVerdict, Judgement, first_unread}
 use Rattle.reg_levels.specs.LevelVerdict.{IsCompatible, IsVerdictOn}
 use Rattle.reg_levels.specs.Message.{clash_message, message_of}
 use Rattle.reg_levels.specs.RequiredPairs.{Required, required_pairs}
 use Rattle.reg_levels.specs.Texts.{IsVerdictOfTexts, VersionText, nodes_in, versions_in}
 use Rattle.reg_levels.specs.declared.verdict.LevelVerdict.{LevelVerdict}
-use Rattle.reg_set.specs.Records.{Records}
+use Rattle.reg_modes.specs.reg_set.Records.{Records}
 use Rattle.reg_rules.specs.Report.{IsReport, LiveVersionsAreRead}
 
 -- where a verdict tells no pair, each is compatible

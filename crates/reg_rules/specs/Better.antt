@@ -2,7 +2,7 @@
 use Rattle.std.specs.Prelude.{Bool, true, false, Option, Some}
 use Rattle.std.specs.Option.{option_map_or}
 use Rattle.std.specs.Ordering.{nat_cmp, on, ord_max}
-use Rattle.reg_entries.specs.declared.entry.Entry.{Entry}
+use Rattle.reg_modes.specs.reg_entries.declared.entry.Entry.{Entry}
 
 -- of the best so far and an entry, if it counts, the one of greater version
 abbrev pub better : Bool → Entry → Option Entry → Option Entry

@@ -1,10 +1,10 @@
 -- What the tests come to that find something.
 use Rattle.std.specs.Prelude.{◌≡◌, ◌⊎◌, ℕ, List, Some, None, Result, Ok, Err}
-use Rattle.avro_schema.specs.Schema.{Meaning, schema_of}
+use Rattle.reg_modes.specs.avro_schema.Schema.{Meaning, schema_of}
 use Rattle.reg_modes.specs.Permitted.{Permit, granted}
-use Rattle.reg_refusals.specs.Refusal.{no_memory}
-use Rattle.reg_refusals.specs.declared.refusal.Refusal.{Refusal}
-use Rattle.reg_refusals.specs.declared.refusal.Refusal.TheVariants.{InvalidSchema}
+use Rattle.reg_modes.specs.reg_refusals.Refusal.{no_memory}
+use Rattle.reg_modes.specs.reg_refusals.declared.refusal.Refusal.{Refusal}
+use Rattle.reg_modes.specs.reg_refusals.declared.refusal.Refusal.TheVariants.{InvalidSchema}
 
 -- a test, with what it finds where it passes
 abbrev pub Finds : {A : Type 0} → Permit → (A → Type 0) → Result A Refusal → Type 0

@@ -1,13 +1,13 @@
 -- What a check of the level tells.
 use Rattle.std.specs.Prelude.{◌≡◌, ℕ, List, Option, Some, None}
-use Rattle.reg_level_names.specs.declared.level.Level.{Level}
-use Rattle.reg_entries.specs.Sought.{texts_of}
-use Rattle.reg_fold.specs.Standing.{live}
+use Rattle.reg_modes.specs.reg_level_names.declared.level.Level.{Level}
+use Rattle.reg_modes.specs.reg_entries.Sought.{texts_of}
+use Rattle.reg_modes.specs.reg_fold.Standing.{live}
 use Rattle.reg_levels.specs.Judgement.{first_unread}
 use Rattle.reg_levels.specs.Message.{message_of}
 use Rattle.reg_levels.specs.Texts.{VersionText, IsVerdictOfTexts, TextsMeet}
 use Rattle.reg_levels.specs.declared.verdict.LevelVerdict.{LevelVerdict}
-use Rattle.reg_set.specs.Records.{Records}
+use Rattle.reg_modes.specs.reg_set.Records.{Records}
 
 -- the level isn't met, and that is the message of the first required pair that clashes
 abbrev pub IsClash : Level → List ℕ → List VersionText → List ℕ → Type 0

@@ -1,15 +1,15 @@
 -- What commands ask of the entries. Below, rs are the last records.
 use Rattle.std.specs.Prelude.{ℕ, suc, List, Bool, true, false, ◌==◌, ◌&&◌, not, Option, unwrap_or}
 use Rattle.std.specs.Option.{option_map_or}
-use Rattle.reg_entries.specs.Sought.{counting, has_schema}
-use Rattle.reg_entries.specs.declared.entry.Entry.{Entry}
-use Rattle.reg_fold.specs.Closed.{id_of}
-use Rattle.reg_fold.specs.Entries.{entries}
-use Rattle.reg_fold.specs.IdMark.{last_id}
-use Rattle.reg_fold.specs.Standing.{greatest_version, named, version_in}
-use Rattle.reg_fold.specs.declared.version_ref.VersionRef.{VersionRef}
-use Rattle.reg_fold.specs.declared.version_ref.VersionRef.TheVariants.{Latest, Number}
-use Rattle.reg_set.specs.Records.{Records}
+use Rattle.reg_modes.specs.reg_entries.Sought.{counting, has_schema}
+use Rattle.reg_modes.specs.reg_entries.declared.entry.Entry.{Entry}
+use Rattle.reg_modes.specs.reg_fold.Closed.{id_of}
+use Rattle.reg_modes.specs.reg_fold.Entries.{entries}
+use Rattle.reg_modes.specs.reg_fold.IdMark.{last_id}
+use Rattle.reg_modes.specs.reg_fold.Standing.{greatest_version, named, version_in}
+use Rattle.reg_modes.specs.reg_fold.declared.version_ref.VersionRef.{VersionRef}
+use Rattle.reg_modes.specs.reg_fold.declared.version_ref.VersionRef.TheVariants.{Latest, Number}
+use Rattle.reg_modes.specs.reg_set.Records.{Records}
 
 -- whether an entry has that id, and the schema of that normal text
 abbrev pub is_of : ℕ → List ℕ → Entry → Bool

@@ -1,23 +1,23 @@
 -- The tests of commands, each with its refusal. Below, rs are the last records and n the next offset.
 use Rattle.std.specs.Prelude.{ℕ, List, [], ◌∷◌, Bool, true, false, nat_le, nat_lt, ◌&&◌, ◌||◌, Some, is_some, Err}
-use Rattle.avro_schema.specs.Defaults.{bad_defaults}
-use Rattle.avro_schema.specs.Schema.{Meaning}
-use Rattle.reg_entries.specs.Sought.{has_live}
-use Rattle.reg_fold.specs.Closed.{two_schemas}
-use Rattle.reg_fold.specs.Entries.{entries}
-use Rattle.reg_fold.specs.IdMark.{id_mark}
-use Rattle.reg_fold.specs.InForce.{Scope}
-use Rattle.reg_fold.specs.Opaque.{opaque}
-use Rattle.reg_fold.specs.Standing.{greatest_version, named}
+use Rattle.reg_modes.specs.avro_schema.Defaults.{bad_defaults}
+use Rattle.reg_modes.specs.avro_schema.Schema.{Meaning}
+use Rattle.reg_modes.specs.reg_entries.Sought.{has_live}
+use Rattle.reg_modes.specs.reg_fold.Closed.{two_schemas}
+use Rattle.reg_modes.specs.reg_fold.Entries.{entries}
+use Rattle.reg_modes.specs.reg_fold.IdMark.{id_mark}
+use Rattle.reg_modes.specs.reg_fold.InForce.{Scope}
+use Rattle.reg_modes.specs.reg_fold.Opaque.{opaque}
+use Rattle.reg_modes.specs.reg_fold.Standing.{greatest_version, named}
 use Rattle.reg_modes.specs.Permitted.{Permit, granted, may_set_import}
 use Rattle.reg_modes.specs.declared.mode.Mode.{Mode}
 use Rattle.reg_modes.specs.declared.mode.Mode.TheVariants as modes
-use Rattle.reg_records.specs.declared.limits.TheConstants.{NUMBER_LIMIT, OFFSET_LIMIT}
-use Rattle.reg_refusals.specs.declared.reason.Reason.TheVariants as reasons
-use Rattle.reg_refusals.specs.declared.reason.StoreFault.TheVariants as faults
-use Rattle.reg_refusals.specs.declared.refusal.Refusal.{Refusal}
-use Rattle.reg_refusals.specs.declared.refusal.Refusal.TheVariants as refusals
-use Rattle.reg_set.specs.Records.{Records}
+use Rattle.reg_modes.specs.reg_records.declared.limits.TheConstants.{NUMBER_LIMIT, OFFSET_LIMIT}
+use Rattle.reg_modes.specs.reg_refusals.declared.reason.Reason.TheVariants as reasons
+use Rattle.reg_modes.specs.reg_refusals.declared.reason.StoreFault.TheVariants as faults
+use Rattle.reg_modes.specs.reg_refusals.declared.refusal.Refusal.{Refusal}
+use Rattle.reg_modes.specs.reg_refusals.declared.refusal.Refusal.TheVariants as refusals
+use Rattle.reg_modes.specs.reg_set.Records.{Records}
 use Rattle.reg_rules.specs.Standing.{names_another}
 
 -- the refusal, unless the test passes

@@ -1,15 +1,15 @@
 -- What commands write.
 use Rattle.std.specs.Prelude.{ℕ, suc, List, [], ◌∷◌, true, false, Some, None, option_and_then}
-use Rattle.reg_level_names.specs.Level.{level_text}
-use Rattle.reg_level_names.specs.declared.level.Level.{Level}
+use Rattle.reg_modes.specs.reg_level_names.Level.{level_text}
+use Rattle.reg_modes.specs.reg_level_names.declared.level.Level.{Level}
 use Rattle.reg_modes.specs.Mode.{mode_text}
 use Rattle.reg_modes.specs.declared.mode.Mode.{Mode}
-use Rattle.reg_records.specs.Written.{written_value}
-use Rattle.reg_records.specs.declared.key.Key.TheVariants as keys
-use Rattle.reg_records.specs.declared.record.Record.{Record}
-use Rattle.reg_records.specs.declared.value.Value.TheVariants as values
-use Rattle.reg_entries.specs.declared.entry.Entry.{Entry}
-use Rattle.reg_fold.specs.InForce.{Scope}
+use Rattle.reg_modes.specs.reg_records.Written.{written_value}
+use Rattle.reg_modes.specs.reg_records.declared.key.Key.TheVariants as keys
+use Rattle.reg_modes.specs.reg_records.declared.record.Record.{Record}
+use Rattle.reg_modes.specs.reg_records.declared.value.Value.TheVariants as values
+use Rattle.reg_modes.specs.reg_entries.declared.entry.Entry.{Entry}
+use Rattle.reg_modes.specs.reg_fold.InForce.{Scope}
 pub use Rattle.reg_rules.specs.declared.writing.Writing.{Writing}
 
 abbrev pub version_of : List ℕ → ℕ → ℕ → List ℕ → Writing

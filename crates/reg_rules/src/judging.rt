@@ -1,20 +1,20 @@
 // Whether a schema meets the level in force.
 ghost use Rattle.std.specs.Prelude.{◌≡◌, None, Some, IfOk, IfSome, map};
-ghost use Rattle.reg_fold.specs.InForce.{level};
-ghost use Rattle.reg_fold.specs.Standing.{live};
+ghost use Rattle.reg_modes.specs.reg_fold.InForce.{level};
+ghost use Rattle.reg_modes.specs.reg_fold.Standing.{live};
 ghost use Rattle.reg_levels.specs.Judgement.{IsMadeOf, first_unread};
 ghost use Rattle.reg_levels.specs.RequiredPairs.{HasRisingVersions};
 ghost use Rattle.reg_levels.specs.Texts.{IsVerdictOfTexts};
-ghost use Rattle.reg_entries.specs.Sought.{texts_of};
+ghost use Rattle.reg_modes.specs.reg_entries.Sought.{texts_of};
 ghost use Rattle.reg_rules.specs.Report.{IsReport, LiveVersionsAreRead};
 
 use crate::looking::live_looked_at;
-use avro_schema::Schema;
-use base_text::Text;
-use reg_entries::texts_of;
-use reg_fold::{Registry, entries_are_read};
-use reg_level_names::Level;
 use reg_levels::{Judged, LevelVerdict, check_read_texts};
+use reg_modes::avro_schema::Schema;
+use reg_modes::base_text::Text;
+use reg_modes::reg_entries::texts_of;
+use reg_modes::reg_fold::{Registry, entries_are_read};
+use reg_modes::reg_level_names::Level;
 use std::alloc::{AllocError, Global};
 
 /// The message of the first pair that clashes, by the judgement if it was made of the live versions that

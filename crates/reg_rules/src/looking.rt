@@ -1,11 +1,11 @@
 // The live versions that a level looks at.
 ghost use Rattle.std.specs.Prelude.{◌≡◌, ◌-◌, ◌∷◌, [], IfOk, drop, length, map};
-ghost use Rattle.reg_entries.specs.Sought.{AreInVersionOrder};
-ghost use Rattle.reg_fold.specs.Standing.{live};
+ghost use Rattle.reg_modes.specs.reg_entries.Sought.{AreInVersionOrder};
+ghost use Rattle.reg_modes.specs.reg_fold.Standing.{live};
 ghost use Rattle.reg_levels.specs.RequiredPairs.{looked_at};
 
-use reg_fold::{Entry, Registry, VersionRef, entries_stand_by_version};
-use reg_level_names::Level;
+use reg_modes::reg_fold::{Entry, Registry, VersionRef, entries_stand_by_version};
+use reg_modes::reg_level_names::Level;
 use std::alloc::{AllocError, Global};
 
 /// The live versions of a subject that a level looks at, by version: none, the greatest, which is sought

@@ -1,16 +1,16 @@
 // What is asked of a schema that is to be registered.
 ghost use Rattle.std.specs.Prelude.{◌≡◌, IfOk, map, option_copied, bytes_eq};
 ghost use Rattle.std.specs.List.{filter};
-ghost use Rattle.reg_fold.specs.Standing.{live};
+ghost use Rattle.reg_modes.specs.reg_fold.Standing.{live};
 ghost use Rattle.reg_rules.specs.Better.{better};
 ghost use Rattle.reg_rules.specs.Finding.{IsRead};
 ghost use Rattle.reg_rules.specs.Standing.{is_of};
-ghost use Rattle.reg_entries.specs.Sought.{has_schema, newest};
+ghost use Rattle.reg_modes.specs.reg_entries.Sought.{has_schema, newest};
 ghost use Rattle.reg_rules.specs.Tests as test;
 
-use avro_schema::Schema;
-use base_text::Text;
-use reg_fold::{Entry, Refusal, Registry};
+use reg_modes::avro_schema::Schema;
+use reg_modes::base_text::Text;
+use reg_modes::reg_fold::{Entry, Refusal, Registry};
 use std::alloc::{AllocError, Global};
 
 /// The schema of a text, if it has one.

@@ -4,10 +4,10 @@ ghost use Rattle.reg_rules.specs.Finding.{Finds};
 ghost use Rattle.reg_rules.specs.Tests as test;
 
 use crate::schemas::has_schema;
-use base_text::Text;
-use reg_fold::{Reason, Refusal, Registry, StoreFault};
+use reg_modes::base_text::Text;
+use reg_modes::reg_fold::{Reason, Refusal, Registry, StoreFault};
+use reg_modes::reg_records::{NUMBER_LIMIT, OFFSET_LIMIT};
 use reg_modes::{Mode, may_set_import};
-use reg_records::{NUMBER_LIMIT, OFFSET_LIMIT};
 
 /// Refuses where the registry is closed: `OpaqueRecord`, else `TwoSchemas`.
 pub fn must_be_open(registry: &Registry) -> Result<(), Refusal>

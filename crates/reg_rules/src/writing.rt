@@ -1,14 +1,14 @@
 // What commands write.
 ghost use Rattle.std.specs.Prelude.{◌≡◌, ◌+◌, ◌≤◌, suc, vec_len, IfOk, Some};
-ghost use Rattle.reg_records.specs.declared.limits.TheConstants.{OFFSET_LIMIT};
-ghost use Rattle.reg_entries.specs.declared.entry.Entry.{Entry};
+ghost use Rattle.reg_modes.specs.reg_records.declared.limits.TheConstants.{OFFSET_LIMIT};
+ghost use Rattle.reg_modes.specs.reg_entries.declared.entry.Entry.{Entry};
 ghost use Rattle.reg_rules.specs.Writings.{deleted_again, deleted_up_to, id_marked, level_cleared, level_set, mode_cleared, mode_set, no_operation, numbered, removed, version_of, written_at};
 
-use base_text::Text;
-use reg_fold::Entry;
-use reg_level_names::Level;
 use reg_modes::Mode;
-use reg_records::{Key, Record, Value};
+use reg_modes::base_text::Text;
+use reg_modes::reg_fold::Entry;
+use reg_modes::reg_level_names::Level;
+use reg_modes::reg_records::{Key, Record, Value};
 use std::alloc::{AllocError, Global};
 
 /// A record without its offset; no value deletes the key.

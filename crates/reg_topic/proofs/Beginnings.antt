@@ -2,15 +2,15 @@
 use Rattle.std.proofs.Common.{◌≡◌, ℕ, suc, ◌+◌, ◌<◌, ◌≤◌, Bool, true, false, List, length, nat_le, All, refl, sym, ◌∙◌, arith}
 use Rattle.std.specs.Cmp.{IsTotalOrder}
 use Rattle.std.specs.FinSet.{from_list, IsAntisymmetric, contains-from_list}
-use Rattle.reg_records.specs.declared.limits.TheConstants.{OFFSET_LIMIT}
-use Rattle.reg_records.specs.declared.record.Record.{Record}
-use Rattle.reg_set.specs.Join.{LastIsGreatest, LastOfLastRecords, LastOfUnion}
-use Rattle.reg_set.specs.LastRecords.{last_records}
-use Rattle.reg_set.specs.RecordOrder.{record_cmp}
-use Rattle.reg_entries.specs.TwoSchemas.{NoneIsOneTextEach}
-use Rattle.reg_fold.specs.Closed.{is_closed}
-use Rattle.reg_fold.specs.Entries.{EntriesAreOfPlaces}
-use Rattle.reg_fold.specs.Opaque.{NoneIsNoOpaqueLast}
+use Rattle.reg_leader.specs.reg_records.declared.limits.TheConstants.{OFFSET_LIMIT}
+use Rattle.reg_leader.specs.reg_records.declared.record.Record.{Record}
+use Rattle.reg_leader.specs.reg_set.Join.{LastIsGreatest, LastOfLastRecords, LastOfUnion}
+use Rattle.reg_leader.specs.reg_set.LastRecords.{last_records}
+use Rattle.reg_leader.specs.reg_set.RecordOrder.{record_cmp}
+use Rattle.reg_leader.specs.reg_entries.TwoSchemas.{NoneIsOneTextEach}
+use Rattle.reg_leader.specs.reg_fold.Closed.{is_closed}
+use Rattle.reg_leader.specs.reg_fold.Entries.{EntriesAreOfPlaces}
+use Rattle.reg_leader.specs.reg_fold.Opaque.{NoneIsNoOpaqueLast}
 use Rattle.reg_leader.specs.Adoption.{adopting}
 use Rattle.reg_leader.specs.OneStep.{goes_on}
 use Rattle.reg_leader.specs.GivenIds.{AreBelow}

@@ -2,7 +2,7 @@
 use Rattle.std.proofs.Common.{◌≡◌, ◌≢◌, ℕ, suc, ◌+◌, ◌<◌, ◌≤◌, ◌==◌, ◌&&◌, true, false, List}
 use Rattle.std.proofs.Common.{length, get_or, drop, refl, sym, ap, ◌∙◌, eq-eqb, eqb-true}
 use Rattle.std.proofs.lemmas.List.{at_drop_more, at_drop_all}
-use Rattle.reg_records.specs.declared.record.Record.{Record}
+use Rattle.reg_leader.specs.reg_records.declared.record.Record.{Record}
 use Rattle.reg_leader.specs.OneStep.{goes_on}
 
 -- the record at a place, and those after it

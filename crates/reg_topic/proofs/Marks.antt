@@ -7,25 +7,25 @@ use Rattle.std.specs.FinSet.{from_list, union, IsAntisymmetric, contains-from_li
 use Rattle.std.specs.List.{AllByRecursion, list_any}
 use Rattle.std.specs.Option.{option_map_or}
 use Rattle.std.specs.Ordering.{eq_by_cmp}
-use Rattle.reg_values.specs.Value.{value_of}
-use Rattle.reg_records.specs.declared.key.Key.{Key}
-use Rattle.reg_records.specs.declared.key.Key.TheVariants as keys
-use Rattle.reg_records.specs.declared.record.Record.{Record}
-use Rattle.reg_records.specs.declared.value.Value.{Value}
-use Rattle.reg_records.specs.declared.value.Value.TheVariants as values
-use Rattle.reg_set.specs.Join.{LastIsGreatest, LastOfLastRecords, LastOfUnion, later}
-use Rattle.reg_set.specs.LastRecords.{last, last_records}
-use Rattle.reg_set.specs.RecordOrder.{record_cmp}
-use Rattle.reg_set.specs.Records.{Records}
-use Rattle.reg_entries.specs.TwoSchemas.{NoneIsOneTextEach}
-use Rattle.reg_entries.specs.declared.entry.Entry.{Entry}
-use Rattle.reg_fold.specs.Closed.{is_closed, two_schemas}
-use Rattle.reg_fold.specs.Entries.{EntriesAreOfPlaces, entries, entry_in, entry_of, normal_of}
-use Rattle.reg_fold.specs.IdMark.{needs_mark}
-use Rattle.reg_fold.specs.Covers.{covers, is_soft_deleted}
-use Rattle.reg_fold.specs.Opaque.{NoneIsNoOpaqueLast, is_opaque, is_version, opaque}
-use Rattle.reg_fold.specs.Standing.{greatest_id}
-use Rattle.reg_rules.specs.Writings.{id_marked, numbered}
+use Rattle.reg_leader.specs.reg_values.Value.{value_of}
+use Rattle.reg_leader.specs.reg_records.declared.key.Key.{Key}
+use Rattle.reg_leader.specs.reg_records.declared.key.Key.TheVariants as keys
+use Rattle.reg_leader.specs.reg_records.declared.record.Record.{Record}
+use Rattle.reg_leader.specs.reg_records.declared.value.Value.{Value}
+use Rattle.reg_leader.specs.reg_records.declared.value.Value.TheVariants as values
+use Rattle.reg_leader.specs.reg_set.Join.{LastIsGreatest, LastOfLastRecords, LastOfUnion, later}
+use Rattle.reg_leader.specs.reg_set.LastRecords.{last, last_records}
+use Rattle.reg_leader.specs.reg_set.RecordOrder.{record_cmp}
+use Rattle.reg_leader.specs.reg_set.Records.{Records}
+use Rattle.reg_leader.specs.reg_entries.TwoSchemas.{NoneIsOneTextEach}
+use Rattle.reg_leader.specs.reg_entries.declared.entry.Entry.{Entry}
+use Rattle.reg_leader.specs.reg_fold.Closed.{is_closed, two_schemas}
+use Rattle.reg_leader.specs.reg_fold.Entries.{EntriesAreOfPlaces, entries, entry_in, entry_of, normal_of}
+use Rattle.reg_leader.specs.reg_fold.IdMark.{needs_mark}
+use Rattle.reg_leader.specs.reg_fold.Covers.{covers, is_soft_deleted}
+use Rattle.reg_leader.specs.reg_fold.Opaque.{NoneIsNoOpaqueLast, is_opaque, is_version, opaque}
+use Rattle.reg_leader.specs.reg_fold.Standing.{greatest_id}
+use Rattle.reg_leader.specs.reg_rules.Writings.{id_marked, numbered}
 use Rattle.reg_leader.specs.Adoption.{adopting}
 use Rattle.reg_topic.proofs.Bools.{either}
 use Rattle.reg_topic.proofs.Offsets.{equal}

@@ -2,8 +2,8 @@
 use Rattle.std.proofs.Common.{◌≡◌, ⊎_elim, Bool, true, ◌||◌, Option, Some, None, IfSome, sym, ap, ◌∙◌}
 use Rattle.std.specs.Cmp.{IsTotalOrder}
 use Rattle.std.specs.FinSet.{contains, union, contains-union}
-use Rattle.reg_set.specs.LastRecords.{last}
-use Rattle.reg_set.specs.RecordOrder.{record_cmp}
+use Rattle.reg_leader.specs.reg_set.LastRecords.{last}
+use Rattle.reg_leader.specs.reg_set.RecordOrder.{record_cmp}
 use Rattle.reg_topic.specs.Laws.{MoreKeepsLasts}
 use Rattle.reg_topic.proofs.Bools.{either}
 

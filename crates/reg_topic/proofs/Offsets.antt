@@ -7,8 +7,8 @@ use Rattle.std.specs.Cmp.{Equal-is, IsTotalOrder}
 use Rattle.std.specs.FinSet.{contains, from_list, IsAntisymmetric, contains-from_list, contains-union}
 use Rattle.std.specs.List.{list_any}
 use Rattle.std.specs.Ordering.{eq_by_cmp}
-use Rattle.reg_records.specs.declared.record.Record.{Record}
-use Rattle.reg_set.specs.RecordOrder.{record_cmp}
+use Rattle.reg_leader.specs.reg_records.declared.record.Record.{Record}
+use Rattle.reg_leader.specs.reg_set.RecordOrder.{record_cmp}
 use Rattle.reg_leader.specs.OneStep.{goes_on}
 use Rattle.reg_leader.specs.GivenIds.{AreBelow}
 use Rattle.reg_topic.specs.Topic.{after_batch, after_compaction}

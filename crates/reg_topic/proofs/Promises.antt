@@ -3,12 +3,12 @@ use Rattle.std.proofs.Common.{◌≡◌, ◌⊎◌, inl, inr, ℕ, Bool, true, f
 use Rattle.std.specs.Cmp.{IsTotalOrder}
 use Rattle.std.specs.FinSet.{from_list, union, IsAntisymmetric}
 use mathlib.Core.List.{IsPrefix}
-use Rattle.reg_records.specs.declared.record.Record.{Record}
-use Rattle.reg_set.specs.LastRecords.{last_records}
-use Rattle.reg_set.specs.RecordOrder.{record_cmp}
-use Rattle.reg_entries.specs.declared.entry.Entry.{Entry}
-use Rattle.reg_fold.specs.Closed.{is_closed}
-use Rattle.reg_fold.specs.Entries.{entries}
+use Rattle.reg_leader.specs.reg_records.declared.record.Record.{Record}
+use Rattle.reg_leader.specs.reg_set.LastRecords.{last_records}
+use Rattle.reg_leader.specs.reg_set.RecordOrder.{record_cmp}
+use Rattle.reg_leader.specs.reg_entries.declared.entry.Entry.{Entry}
+use Rattle.reg_leader.specs.reg_fold.Closed.{is_closed}
+use Rattle.reg_leader.specs.reg_fold.Entries.{entries}
 use Rattle.reg_leader.specs.OneStep.{BatchesGoOn, StepsMeetLevels}
 use Rattle.reg_leader.specs.StayOpen.{StepsStayOpen, last_after}
 use Rattle.reg_leader.specs.GivenIds.{AreBelow, EntriesHaveGivenIds, IsGiven, StepsKeepGivenIds}

@@ -3,12 +3,12 @@ use Rattle.std.proofs.Common.{◌≡◌, ◌+◌, ◌≤◌, Bool, true, false, 
 use Rattle.std.proofs.Common.{◌++◌, nat_le, suc, length, refl, sym, ap, ◌∙◌, arith}
 use Rattle.std.specs.Cmp.{IsTotalOrder}
 use Rattle.std.specs.FinSet.{contains, from_list, IsAntisymmetric, contains-from_list, contains-union}
-use Rattle.reg_records.specs.declared.record.Record.{Record}
-use Rattle.reg_set.specs.RecordOrder.{record_cmp}
+use Rattle.reg_leader.specs.reg_records.declared.record.Record.{Record}
+use Rattle.reg_leader.specs.reg_set.RecordOrder.{record_cmp}
 use Rattle.reg_floored.specs.Compaction.{IsCompactionOf}
 use Rattle.reg_floored.specs.Laws.{CompactionsCompose, LaterRecordsMayJoin}
 use Rattle.reg_leader.specs.OneStep.{goes_on}
-use Rattle.reg_records.specs.declared.limits.TheConstants.{OFFSET_LIMIT}
+use Rattle.reg_leader.specs.reg_records.declared.limits.TheConstants.{OFFSET_LIMIT}
 use Rattle.reg_topic.specs.Laws.{AllowedDropsLeaveCompactions, FloorsRise, FloorsStayBelow, ItemsAreFoldedInTurn, KeptStaysCompaction}
 use Rattle.reg_topic.specs.Laws.{LawfulItemsFollow, LawfulListsGoOn, LawfulListsJoin, ListsAreFoldedInTurn, LogsGrow, LogsGrowOverLists}
 use Rattle.reg_topic.specs.Topic.{IsLawful, after_batch, after_compaction, after_item}

@@ -2,11 +2,11 @@
 use Rattle.std.specs.Prelude.{◌≡◌, ◌<◌, ◌≤◌, ◌↔◌, ℕ, List, [], ◌∷◌, ◌++◌, All, true, false}
 use Rattle.std.specs.FinSet.{contains, from_list, union}
 use Rattle.std.specs.List.{AllByRecursion}
-use Rattle.reg_records.specs.declared.record.Record.{Record}
-use Rattle.reg_set.specs.LastRecords.{last_records}
-use Rattle.reg_set.specs.Records.{Records}
+use Rattle.reg_leader.specs.reg_records.declared.record.Record.{Record}
+use Rattle.reg_leader.specs.reg_set.LastRecords.{last_records}
+use Rattle.reg_leader.specs.reg_set.Records.{Records}
 use Rattle.reg_floored.specs.Compaction.{IsCompactionOf, KeepsLasts}
-use Rattle.reg_fold.specs.Closed.{is_closed}
+use Rattle.reg_leader.specs.reg_fold.Closed.{is_closed}
 use Rattle.reg_topic.specs.Topic.{IsAdopted, IsLawful, MayCommit, MayFollow, after_item, after_items}
 use Rattle.reg_topic.specs.Topic.{follows, left_by, may_compact, published_by, topic_from, whole_log}
 use Rattle.reg_topic.specs.declared.published.Commit.{Commit}

@@ -2,10 +2,10 @@
 use Rattle.std.specs.Prelude.{◌≡◌, ℕ, List, ◌∷◌, ◌++◌, false}
 use Rattle.std.specs.List.{Contains}
 use mathlib.Core.List.{IsPrefix}
-use Rattle.reg_entries.specs.declared.entry.Entry.{Entry}
-use Rattle.reg_fold.specs.Closed.{is_closed}
-use Rattle.reg_fold.specs.Entries.{entries}
-use Rattle.reg_records.specs.declared.record.Record.{Record}
+use Rattle.reg_leader.specs.reg_entries.declared.entry.Entry.{Entry}
+use Rattle.reg_leader.specs.reg_fold.Closed.{is_closed}
+use Rattle.reg_leader.specs.reg_fold.Entries.{entries}
+use Rattle.reg_leader.specs.reg_records.declared.record.Record.{Record}
 use Rattle.reg_leader.specs.OneStep.{RegistersWhatMeets}
 use Rattle.reg_leader.specs.declared.command.Command.{Command}
 use Rattle.reg_leader.specs.declared.command.Command.TheVariants as commands

@@ -2,13 +2,13 @@
 use Rattle.std.specs.Prelude.{◌≡◌, ◌≢◌, ℕ, suc, ◌+◌, ◌<◌, ◌≤◌, List, [], ◌∷◌, Bool, true, false, ◌&&◌, nat_le, length, fold}
 use Rattle.std.specs.FinSet.{contains, from_list, union}
 use Rattle.std.specs.List.{flat_map}
-use Rattle.reg_records.specs.declared.limits.TheConstants.{OFFSET_LIMIT}
-use Rattle.reg_records.specs.declared.record.Record.{Record}
-use Rattle.reg_set.specs.LastRecords.{last_records}
-use Rattle.reg_set.specs.Records.{Records}
+use Rattle.reg_leader.specs.reg_records.declared.limits.TheConstants.{OFFSET_LIMIT}
+use Rattle.reg_leader.specs.reg_records.declared.record.Record.{Record}
+use Rattle.reg_leader.specs.reg_set.LastRecords.{last_records}
+use Rattle.reg_leader.specs.reg_set.Records.{Records}
 use Rattle.reg_floored.specs.Floored.{Floored}
 use Rattle.reg_floored.specs.Floors.{may_leave, without}
-use Rattle.reg_fold.specs.Closed.{is_closed}
+use Rattle.reg_leader.specs.reg_fold.Closed.{is_closed}
 use Rattle.reg_leader.specs.Adoption.{adopting}
 use Rattle.reg_leader.specs.OneStep.{goes_on}
 use Rattle.reg_leader.specs.Step.{IsStep}

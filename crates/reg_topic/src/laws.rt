@@ -4,12 +4,14 @@ ghost use Rattle.reg_topic.specs.Laws.{AdoptedLogsBegin, AllowedDropsLeaveCompac
 ghost use Rattle.reg_topic.specs.Promises.{LawfulListsKeepIds, LawfulListsMeetLevels, LawfulListsStayOpen};
 
 use reg_floored::{compactions_compose, compactions_unite, drops_leave_compactions};
-use reg_fold::{entries_are_of_places, none_is_no_opaque_last, two_schemas_is_least};
+use reg_leader::reg_fold::{entries_are_of_places, none_is_no_opaque_last, two_schemas_is_least};
+use reg_leader::reg_set::{
+    last_is_greatest, last_records_are_enough, merging_joins_sets, records_are_ordered,
+};
 use reg_leader::{
     batches_end_by_the_limit, batches_go_on, steps_keep_given_ids, steps_meet_levels,
     steps_stay_open,
 };
-use reg_set::{last_is_greatest, last_records_are_enough, merging_joins_sets, records_are_ordered};
 
 /// A compaction may be published exactly where its floor doesn't fall and isn't ahead of the next
 /// offset, its records are kept, and what stays is a compaction of what was.

@@ -1,7 +1,7 @@
 // What is published.
-use base_text::Listed;
 use reg_leader::Command;
-use reg_records::Record;
+use reg_leader::base_text::Listed;
+use reg_leader::reg_records::Record;
 
 /// The records that a command wrote, with the command. There is at least one.
 #[derive(Debug, Drop, Clone)]

@@ -1,13 +1,13 @@
 // What a list of items comes to.
 ghost use Rattle.std.specs.Prelude.{◌≡◌, ◌+◌, ◌≤◌, suc, length, IfOk, OnOk, OnErr};
-ghost use Rattle.reg_records.specs.declared.limits.TheConstants.{OFFSET_LIMIT};
+ghost use Rattle.reg_leader.specs.reg_records.declared.limits.TheConstants.{OFFSET_LIMIT};
 ghost use Rattle.reg_leader.specs.OneStep.{goes_on};
 ghost use Rattle.reg_topic.specs.Topic.{after_batch, after_compaction, after_item, follows, may_compact, plain_topic};
 
 use crate::published::{Compaction, Item};
 use reg_floored::KeptSet;
-use reg_records::{Log, OFFSET_LIMIT, Record};
-use reg_set::RecordSet;
+use reg_leader::reg_records::{Log, OFFSET_LIMIT, Record};
+use reg_leader::reg_set::RecordSet;
 use std::alloc::{AllocError, Global};
 
 /// A log and its kept set.

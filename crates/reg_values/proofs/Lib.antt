@@ -1,3 +1,4 @@
 pub mod WithSchema
 pub mod OfKeys
 pub mod ReadsBack
+pub use Rattle.reg_records.proofs as reg_records_proofs

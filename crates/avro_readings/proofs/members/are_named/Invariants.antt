@@ -1,6 +1,6 @@
 -- The names are the same where those of what is left are.
 use Rattle.std.proofs.Common.{◌≡◌, drop, map}
-use Rattle.avro_schema.specs.declared.node.Field.{Field}
+use Rattle.avro_resolve.specs.avro_schema.declared.node.Field.{Field}
 use Rattle.avro_readings.proofs.Along.{Entry}
 use Rattle.avro_readings.proofs.members.are_named.Given as goal
 

@@ -1,7 +1,7 @@
 use Rattle.std.proofs.Common.{sym, subst}
-use Rattle.reg_set.specs.LastRecords.{last_records}
+use Rattle.reg_leader.specs.reg_set.LastRecords.{last_records}
 use Rattle.reg_floored.specs.Compaction.{standing}
-use Rattle.reg_fold.specs.GiveAlike.{GiveAlike}
+use Rattle.reg_leader.specs.reg_fold.GiveAlike.{GiveAlike}
 use Rattle.reg_alike.proofs.laws.what_stands_gives_all.Goals as goal
 
 pub returns : goal.returns

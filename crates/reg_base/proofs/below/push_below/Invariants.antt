@@ -1,6 +1,6 @@
 use Rattle.std.proofs.Common.{◌++◌, ℕ, List}
 use Rattle.reg_journal.specs.Lines.{text_of}
-use Rattle.reg_records.specs.declared.record.Read.{Read}
+use Rattle.reg_fold.specs.reg_records.declared.record.Read.{Read}
 use Rattle.reg_compaction.specs.Fronts.{HasLines}
 use Rattle.reg_base.specs.Base.{lines_below}
 use Rattle.reg_base.proofs.Lines.{GoesOn}

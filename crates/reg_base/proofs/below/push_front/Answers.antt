@@ -1,6 +1,6 @@
 use Rattle.std.proofs.Common.{◌≡◌, ◌+◌, ◌++◌, ◌∷◌, [], ℕ, Bool, true, false, List, Option, Some, cond, append-nil, length, sym, ap, ◌∙◌}
 use Rattle.reg_journal.specs.Lines.{text_of}
-use Rattle.reg_records.specs.declared.record.Read.{Read}
+use Rattle.reg_fold.specs.reg_records.declared.record.Read.{Read}
 use Rattle.reg_base.specs.Base.{is_below, lines_below}
 use Rattle.reg_base.proofs.Lines.{line_of, of_pairs}
 use Rattle.reg_base.proofs.below.push_front.Goals.{then-is_below+in_ok-extend_from_slice, else-is_below}

@@ -1,6 +1,6 @@
 use Rattle.std.proofs.Common.{◌≡◌, ◌-◌, ℕ, not, List, length, sym, ap, ◌∙◌, arith}
 use Rattle.std.specs.List.{count_by}
-use Rattle.reg_entries.specs.declared.entry.Entry.{Entry}
+use Rattle.reg_fold.specs.reg_entries.declared.entry.Entry.{Entry}
 use Rattle.reg_inspection.proofs.Counting.{live_are, same_counts, soft_are}
 use Rattle.reg_inspection.proofs.counts.counts_of.Goals as goal
 

@@ -3,7 +3,7 @@ use Rattle.std.proofs.lemmas.List.Splits.{slice_split_first, slice_split_none}
 use Rattle.std.proofs.lemmas.List.Sums.{fails_before_first}
 use Rattle.std.proofs.lemmas.Str.Pattern.{split_once_first}
 use Rattle.std.specs.List.{after_first, before_first, position_or_len, slice_get}
-use Rattle.reg_records.specs.Line.{is_tab}
+use Rattle.reg_fold.specs.reg_records.Line.{is_tab}
 use Rattle.reg_inspection.proofs.foreign.first_field.Goals as goal
 
 pub returns-in-Some : goal.returns-in-Some

@@ -1,8 +1,8 @@
 use Rattle.std.proofs.Common.{◌≡◌, ◌≤◌, ◌++◌, ℕ, List, IfOk, Option, drop, length, sym, ap, subst, ◌∙◌, arith, length-append}
 use Rattle.std.specs.BTreeMap.{BTreeMap}
 use Rattle.reg_journal.specs.Lines.{text_of}
-use Rattle.reg_records.specs.Log.{records_in}
-use Rattle.reg_records.specs.declared.limits.TheConstants.{LOG_LINES}
+use Rattle.reg_fold.specs.reg_records.Log.{records_in}
+use Rattle.reg_fold.specs.reg_records.declared.limits.TheConstants.{LOG_LINES}
 use Rattle.reg_compaction.specs.Fronts.{HasLines}
 use Rattle.reg_compaction.proofs.Fronts.{Say-length, split_behind}
 use Rattle.reg_inspection.specs.Foreign.{foreign_keytypes, log_lines, tally_of}

@@ -3,7 +3,7 @@ use Rattle.std.proofs.lemmas.List.Splits.{slice_split_first, slice_split_none}
 use Rattle.std.proofs.lemmas.List.Sums.{fails_before_first}
 use Rattle.std.proofs.lemmas.Str.Pattern.{split_once_first}
 use Rattle.std.specs.List.{after_first, before_first, position_or_len, slice_get, slice_split}
-use Rattle.reg_records.specs.Line.{is_tab}
+use Rattle.reg_fold.specs.reg_records.Line.{is_tab}
 use Rattle.reg_inspection.proofs.foreign.key_in.Goals as goal
 
 second : (x : List ℕ) (xs : List (List ℕ)) → slice_get xs 0 ≡ slice_get (x ∷ xs) 1

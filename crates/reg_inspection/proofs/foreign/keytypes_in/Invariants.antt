@@ -1,5 +1,5 @@
 use Rattle.std.proofs.Common.{ℕ, List}
-use Rattle.reg_records.specs.declared.record.Read.{Read}
+use Rattle.reg_fold.specs.reg_records.declared.record.Read.{Read}
 use Rattle.reg_compaction.specs.Fronts.{HasLines}
 use Rattle.reg_inspection.proofs.Lines.{GoesOn}
 use Rattle.reg_inspection.proofs.foreign.keytypes_in.Given as goal

@@ -1,6 +1,6 @@
 use Rattle.std.proofs.Common.{◌≡◌, ◌+◌, ◌++◌, ◌∷◌, [], ℕ, List, Option, Ok, Some, length, sym, ap, ◌∙◌}
-use Rattle.reg_records.specs.Line.{reading}
-use Rattle.reg_records.specs.declared.record.Read.{Read}
+use Rattle.reg_fold.specs.reg_records.Line.{reading}
+use Rattle.reg_fold.specs.reg_records.declared.record.Read.{Read}
 use Rattle.reg_inspection.specs.Foreign.{foreign_keytypes}
 use Rattle.reg_inspection.proofs.Lines.{line_of, of_pairs}
 use Rattle.reg_inspection.proofs.foreign.push_front.Goals as goal

@@ -1,6 +1,6 @@
 use Rattle.std.proofs.Common.{◌≡◌, ◌++◌, ◌∷◌, [], cond, List, ℕ, Option, sym, ap, ◌∙◌, append-nil}
-use Rattle.reg_records.specs.Log.{is_foreign}
-use Rattle.reg_records.specs.declared.record.Read.{Read}
+use Rattle.reg_fold.specs.reg_records.Log.{is_foreign}
+use Rattle.reg_fold.specs.reg_records.declared.record.Read.{Read}
 use Rattle.reg_inspection.specs.Foreign.{foreign_keytypes, keytype_in}
 use Rattle.reg_inspection.proofs.Lines.{keytype_of_line}
 use Rattle.reg_inspection.proofs.foreign.push_keytype.Goals as goal

@@ -1,7 +1,7 @@
 use Rattle.std.proofs.Common.{not, bytes_eq, ◌∙◌, Bor, rules, tests}
 use Rattle.std.proofs.lemmas.Iterator.{YieldsList-from_slice}
 use Rattle.std.proofs.lemmas.Iterator.Search.{any_from_yields_List}
-use Rattle.reg_entries.specs.declared.entry.Entry.{Entry}
+use Rattle.reg_fold.specs.reg_entries.declared.entry.Entry.{Entry}
 use Rattle.reg_inspection.proofs.Given.{apart_is}
 use Rattle.reg_inspection.proofs.ids.are_apart.Goals as goal
 

@@ -1,6 +1,6 @@
 use Rattle.std.proofs.Common.{◌≡◌, ◌++◌}
 use Rattle.std.specs.List.{filter}
-use Rattle.reg_entries.specs.Sought.{with_id}
+use Rattle.reg_fold.specs.reg_entries.Sought.{with_id}
 use Rattle.reg_fold.specs.Entries.{entries}
 use Rattle.reg_inspection.specs.Shared.{are_apart, shared_ids}
 use Rattle.reg_inspection.proofs.ids.shared_ids.Given as goal

@@ -1,5 +1,5 @@
 use Rattle.std.proofs.Common.{ap, ◌∙◌, ℕ, List, Option}
-use Rattle.reg_records.specs.Log.{next_of}
+use Rattle.reg_fold.specs.reg_records.Log.{next_of}
 use Rattle.reg_inspection.specs.Counts.{counts_of, lasts_in, mark_due}
 use Rattle.reg_inspection.specs.Foreign.{foreign_tally}
 use Rattle.reg_inspection.specs.Report.{report_text}

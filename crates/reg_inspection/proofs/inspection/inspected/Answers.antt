@@ -1,5 +1,5 @@
 use Rattle.std.proofs.Common.{◌≡◌, Ok, sym, ap, ◌∙◌, rules}
-use Rattle.reg_records.specs.Log.{log_of}
+use Rattle.reg_fold.specs.reg_records.Log.{log_of}
 use Rattle.reg_inspection.proofs.inspection.inspected.Goals as goal
 
 pub returns-clause-inspected : goal.returns-clause-inspected

@@ -1,10 +1,10 @@
 use Rattle.std.proofs.Common.{◌≡◌, ℕ, List, length, ap, ◌∙◌}
 use Rattle.std.specs.FinSet.{from_list}
 use Rattle.std.specs.List.{count_by}
-use Rattle.reg_records.specs.Log.{is_foreign, records_in}
-use Rattle.reg_records.specs.declared.record.Record.{Record}
-use Rattle.reg_set.specs.LastRecords.{last_records}
-use Rattle.reg_set.specs.Records.{Records}
+use Rattle.reg_fold.specs.reg_records.Log.{is_foreign, records_in}
+use Rattle.reg_fold.specs.reg_records.declared.record.Record.{Record}
+use Rattle.reg_fold.specs.reg_set.LastRecords.{last_records}
+use Rattle.reg_fold.specs.reg_set.Records.{Records}
 use Rattle.reg_fold.specs.Entries.{entries}
 use Rattle.reg_inspection.specs.Counts.{counts_by, counts_in, lasts_in, mark_due}
 use Rattle.reg_inspection.specs.Obstacles.{obstacles}

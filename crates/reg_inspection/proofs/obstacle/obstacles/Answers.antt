@@ -1,9 +1,9 @@
 use Rattle.std.proofs.Common.{◌≡◌, List, [], ap, sym, ◌∙◌}
 use Rattle.std.proofs.lemmas.Result.{IfOk-weaker}
 use Rattle.std.specs.FinSet.{from_list}
-use Rattle.reg_records.specs.declared.record.Record.{Record}
-use Rattle.reg_set.specs.LastRecords.{last_records}
-use Rattle.reg_set.specs.Records.{Records}
+use Rattle.reg_fold.specs.reg_records.declared.record.Record.{Record}
+use Rattle.reg_fold.specs.reg_set.LastRecords.{last_records}
+use Rattle.reg_fold.specs.reg_set.Records.{Records}
 use Rattle.reg_inspection.specs.Obstacles.{obstacles}
 use Rattle.reg_inspection.proofs.obstacle.obstacles.Goals as goal
 

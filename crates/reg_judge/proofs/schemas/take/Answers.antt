@@ -1,7 +1,7 @@
 use Rattle.std.proofs.Common.{◌≡◌, true, Some, sym, ◌∙◌, subst, ap, is_some}
 use Rattle.std.specs.Prelude.{bytes_eq, string_bytes}
 use Rattle.std.proofs.lemmas.Slice.Eq.{bytes_eq-Decides}
-use Rattle.avro_schema.specs.Schema.{schema_of}
+use Rattle.avro_resolve.specs.avro_schema.Schema.{schema_of}
 use Rattle.reg_judge.specs.Judge.{without_text}
 use Rattle.reg_judge.specs.Kept.{AreSchemas, IsSchemaOf, texts_in}
 use Rattle.reg_judge.proofs.Keeping.{found, without}

@@ -1,6 +1,6 @@
 use Rattle.std.proofs.Common.{◌∙◌, inr, not, ◌∷◌, true, false, map, ap, sym}
 use Rattle.std.specs.List.{list_any}
-use Rattle.reg_fold.specs.Entries.{entries}
+use Rattle.reg_rules.specs.reg_fold.Entries.{entries}
 use Rattle.reg_rules.specs.Standing.{standing}
 use Rattle.reg_rules.specs.Writings.{removed}
 use Rattle.reg_leader.specs.Course.{Does}

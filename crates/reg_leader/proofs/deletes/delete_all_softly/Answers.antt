@@ -1,6 +1,6 @@
 use Rattle.std.proofs.Common.{◌==◌, ◌∙◌, inr, true, false, [], ◌∷◌, map, ap, sym}
-use Rattle.reg_fold.specs.Entries.{entries}
-use Rattle.reg_fold.specs.Standing.{live}
+use Rattle.reg_rules.specs.reg_fold.Entries.{entries}
+use Rattle.reg_rules.specs.reg_fold.Standing.{live}
 use Rattle.reg_rules.specs.Writings.{deleted_up_to}
 use Rattle.reg_leader.specs.Course.{Does}
 use Rattle.reg_leader.specs.declared.reply.Reply.TheVariants.{Versions}

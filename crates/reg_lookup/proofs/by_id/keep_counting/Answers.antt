@@ -1,6 +1,6 @@
 use Rattle.std.proofs.Common.{rules}
 use Rattle.std.proofs.lemmas.Fn.{filter_same}
-use Rattle.reg_entries.specs.Sought.{counts}
+use Rattle.reg_modes.specs.reg_entries.Sought.{counts}
 use Rattle.reg_lookup.proofs.by_id.keep_counting.Goals as goal
 
 pub returns : goal.returns

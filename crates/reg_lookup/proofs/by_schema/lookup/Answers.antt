@@ -1,6 +1,6 @@
 use Rattle.std.proofs.Common.{Ok, ap, map, sym, ◌∙◌}
 use Rattle.std.proofs.lemmas.List.{length-map}
-use Rattle.reg_fold.specs.Entries.{entries}
+use Rattle.reg_modes.specs.reg_fold.Entries.{entries}
 use Rattle.reg_lookup.proofs.Looked.{looked_found, looked_none}
 use Rattle.reg_lookup.proofs.by_schema.lookup.Goals as goal
 

@@ -1,6 +1,6 @@
 use Rattle.std.proofs.Common.{[], ◌∷◌, ap, map, ◌∙◌, arith}
 use Rattle.reg_levels.specs.Judgement.{first_unread}
-use Rattle.reg_entries.specs.Sought.{texts_of}
+use Rattle.reg_modes.specs.reg_entries.Sought.{texts_of}
 use Rattle.reg_lookup.proofs.Asked.{found_is_read, live_are_read, texts_rise}
 use Rattle.reg_lookup.proofs.checked.olds_asked.Goals as goal
 

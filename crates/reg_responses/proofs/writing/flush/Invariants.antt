@@ -3,7 +3,7 @@ use Rattle.std.specs.Io.KnownBytes.{Keeps}
 use Rattle.std.specs.IoError.{error_kind}
 use Rattle.std.specs.declared.io.Error.{Error}
 use Rattle.std.specs.declared.io.ErrorKind.TheVariants.{Interrupted}
-use Rattle.reg_records.specs.Device.{all_interruptions_of, bytes_in, counted_by, faults_of, interruptions_of}
+use Rattle.reg_leader.specs.reg_records.Device.{all_interruptions_of, bytes_in, counted_by, faults_of, interruptions_of}
 use Rattle.reg_responses.specs.Writing.{HasFailed}
 use Rattle.reg_responses.proofs.writing.flush.Given as goal
 

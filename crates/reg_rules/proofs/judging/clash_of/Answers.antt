@@ -1,13 +1,13 @@
 use Rattle.std.proofs.Common.{◌≡◌, List, Some, map, sym, ap, subst, ◌∙◌}
 use Rattle.std.proofs.lemmas.Result.{IfOk-weaker}
 use Rattle.std.specs.List.Sorted.{IsStrictlyIncreasing}
-use Rattle.reg_fold.specs.InForce.{level}
-use Rattle.reg_fold.specs.Standing.{live}
+use Rattle.reg_modes.specs.reg_fold.InForce.{level}
+use Rattle.reg_modes.specs.reg_fold.Standing.{live}
 use Rattle.reg_levels.specs.Judgement.{first_unread}
 use Rattle.reg_levels.specs.Message.{message_of}
 use Rattle.reg_levels.specs.RequiredPairs.{looked_at}
 use Rattle.reg_levels.specs.Texts.{VersionText}
-use Rattle.reg_entries.specs.Sought.{AreInVersionOrder, texts_of}
+use Rattle.reg_modes.specs.reg_entries.Sought.{AreInVersionOrder, texts_of}
 use Rattle.reg_rules.proofs.LookedAt.{looked_at-read, report_on_all, texts_looked_at}
 use Rattle.reg_rules.proofs.Verdicts.{judgement_reports, verdict_reports}
 use Rattle.reg_rules.proofs.judging.clash_of.Goals as goal

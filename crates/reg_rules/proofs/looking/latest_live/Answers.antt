@@ -1,10 +1,10 @@
 use Rattle.std.proofs.Common.{◌≡◌, List, false, map, sym, ap, subst, ◌∙◌}
 use Rattle.std.proofs.lemmas.Result.{IfOk-weaker}
 use Rattle.std.specs.Option.{option_copied, option_to_list}
-use Rattle.reg_entries.specs.Sought.{AreInVersionOrder}
-use Rattle.reg_entries.specs.declared.entry.Entry.{Entry}
-use Rattle.reg_fold.specs.Standing.{live}
-use Rattle.reg_level_names.specs.declared.level.Level.TheVariants as levels
+use Rattle.reg_modes.specs.reg_entries.Sought.{AreInVersionOrder}
+use Rattle.reg_modes.specs.reg_entries.declared.entry.Entry.{Entry}
+use Rattle.reg_modes.specs.reg_fold.Standing.{live}
+use Rattle.reg_modes.specs.reg_level_names.declared.level.Level.TheVariants as levels
 use Rattle.reg_rules.proofs.LookedAt.{looked_at-rise, newest_stands_last}
 use Rattle.reg_rules.proofs.looking.latest_live.Goals as goal
 

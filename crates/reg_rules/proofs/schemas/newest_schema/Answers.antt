@@ -1,7 +1,7 @@
 use Rattle.std.proofs.Common.{sym, ap, ◌∙◌}
 use Rattle.std.specs.Option.{option_copied}
 use Rattle.reg_rules.specs.Better.{better}
-use Rattle.reg_entries.specs.Sought.{has_schema}
+use Rattle.reg_modes.specs.reg_entries.Sought.{has_schema}
 use Rattle.reg_rules.proofs.Newest.{newest_more_of}
 use Rattle.reg_rules.proofs.schemas.newest_schema.Goals as goal
 

@@ -1,7 +1,7 @@
 use Rattle.std.proofs.Common.{◌≡◌, map, take}
 use Rattle.std.specs.List.{filter}
 use Rattle.std.specs.Option.{option_copied}
-use Rattle.reg_entries.specs.Sought.{has_schema, newest}
+use Rattle.reg_modes.specs.reg_entries.Sought.{has_schema, newest}
 use Rattle.reg_rules.proofs.schemas.newest_schema.Given as goal
 
 abbrev pub invariant-loop-entry : goal.invariant-loop-entry

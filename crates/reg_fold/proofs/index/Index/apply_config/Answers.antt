@@ -3,7 +3,7 @@ use Rattle.reg_fold.specs.Opaque.{is_version}
 use Rattle.reg_fold.specs.Scopes.{HasOwn}
 use Rattle.reg_fold.proofs.Keeping.{IsKept-other}
 use Rattle.reg_fold.proofs.Owned.{is_id_mark, is_mode, levels-change, mark-stays, modes-stay}
-use Rattle.reg_records.specs.Key.{is_delete}
+use Rattle.reg_values.specs.reg_records.Key.{is_delete}
 use Rattle.reg_fold.proofs.SoftDeletes.{deletes-stay}
 use Rattle.reg_fold.proofs.index.Index.apply_config.Goals as goal
 

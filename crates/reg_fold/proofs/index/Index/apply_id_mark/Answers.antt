@@ -2,7 +2,7 @@ use Rattle.std.proofs.Common.{ap, sym, unwrap_or, ◌∙◌}
 use Rattle.reg_fold.specs.Opaque.{is_version}
 use Rattle.reg_fold.proofs.Keeping.{IsKept-other}
 use Rattle.reg_fold.proofs.Owned.{is_config, is_mode, levels-stay, mark-changes, modes-stay}
-use Rattle.reg_records.specs.Key.{is_delete}
+use Rattle.reg_values.specs.reg_records.Key.{is_delete}
 use Rattle.reg_fold.proofs.SoftDeletes.{deletes-stay}
 use Rattle.reg_fold.proofs.index.Index.apply_id_mark.Goals as goal
 

@@ -1,5 +1,5 @@
 use Rattle.std.proofs.Common.{◌≡◌, Some, subst, ap, sym, ◌∙◌}
-use Rattle.reg_records.specs.declared.key.Key.TheVariants as keys
+use Rattle.reg_values.specs.reg_records.declared.key.Key.TheVariants as keys
 use Rattle.reg_fold.specs.Opaque.{is_opaque, is_version}
 use Rattle.reg_fold.specs.Own.{AreOwnEntries}
 use Rattle.reg_fold.proofs.Own.{own-removed}

@@ -1,6 +1,6 @@
 use Rattle.std.proofs.Common.{◌≡◌, ◌⊎◌, ℕ, Bor, true, is_some, IfSome, List, ◌∷◌, rules, sym, subst, ap, ◌∙◌, map}
 use Rattle.std.proofs.lemmas.Simd.{map-map}
-use Rattle.avro_schema.specs.Schema.{is_schema}
+use Rattle.avro_resolve.specs.avro_schema.Schema.{is_schema}
 use Rattle.reg_levels.specs.RequiredPairs.{looked_at}
 use Rattle.reg_levels.specs.JudgedError.{IsJudgedRefusal}
 use Rattle.reg_levels.specs.Texts.{VersionText}

@@ -3,7 +3,7 @@ use denote.Exit.{Exit, unchanged, leaves, hidden, under}
 use denote.Param.Send.{IsSend, Quiet, AllSend, owning_send, struct_send, sendable}
 use denote.Struct.Struct.{exits_of}
 use denote.Struct.Owning.{shape, fields, to}
-use Rattle.avro_schema.specs.contracts.schema.Schema as schema
+use Rattle.avro_resolve.specs.avro_schema.contracts.schema.Schema as schema
 use Rattle.serde_json.proofs.value.Value.TheLaws.TheKnot
 use Rattle.std.proofs.Crossing
 use Rattle.std.proofs.MapsCrossing

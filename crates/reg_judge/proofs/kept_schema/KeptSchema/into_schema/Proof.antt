@@ -22,8 +22,8 @@ use Rattle.std.proofs.alloc.Calls.{Goes-blank}
 use Rattle.std.proofs.cell.Inside.{one, round}
 use Rattle.std.proofs.ResultValues.{and_tt}
 use Rattle.std.proofs.raw_atomic.Walks.{proved_at, leaves}
-use Rattle.avro_schema.specs.contracts.schema.Schema as schema
-use Rattle.avro_schema.proofs.schema.Schema.TheLaws as laws
+use Rattle.avro_resolve.specs.avro_schema.contracts.schema.Schema as schema
+use Rattle.avro_resolve.proofs.avro_schema_proofs.schema.Schema.TheLaws as laws
 use Rattle.reg_judge.specs.contracts.kept_schema.KeptSchema as kept
 use Rattle.reg_judge.specs.contracts.kept_schema.KeptSchema.into_schema.{ended, clauses}
 use Rattle.reg_judge.specs.contracts.kept_schema.KeptSchema.into_schema.Key.{name as #self}

@@ -1,6 +1,6 @@
 use Rattle.std.proofs.Common.{subst, ◌∙◌}
 use Rattle.std.proofs.lemmas.Result.{IfOk-weaker}
-use Rattle.reg_fold.specs.Entries.{entries}
+use Rattle.reg_modes.specs.reg_fold.Entries.{entries}
 use Rattle.reg_lookup.specs.Checked.{CheckedOn, TellsVerdict, asked_on, checked_on, olds_of}
 use Rattle.reg_lookup.proofs.LookedAt.{told_of_all}
 use Rattle.reg_lookup.proofs.checked.Grounds.answer.Goals as goal

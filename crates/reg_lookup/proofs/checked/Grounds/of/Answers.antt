@@ -1,6 +1,6 @@
 use Rattle.std.proofs.Common.{Some, ap, ◌∙◌}
-use Rattle.reg_fold.specs.Entries.{entries}
-use Rattle.reg_fold.specs.InForce.{level}
+use Rattle.reg_modes.specs.reg_fold.Entries.{entries}
+use Rattle.reg_modes.specs.reg_fold.InForce.{level}
 use Rattle.reg_levels.specs.RequiredPairs.{looked_at}
 use Rattle.reg_lookup.specs.Checked.{olds_of}
 use Rattle.reg_lookup.proofs.LookedAt.{copies_are_grounds, copies_are_read}

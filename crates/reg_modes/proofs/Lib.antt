@@ -1,0 +1,1 @@
+pub use Rattle.reg_fold.proofs.reg_records_proofs
