@@ -1,5 +1,6 @@
 // Texts and lists that contracts see as plain ones.
 use base_text::{Listed, Text};
+use named_list::NamedList;
 use std::test::Fail;
 
 #[test]
@@ -19,5 +20,18 @@ fn a_text_is_compared_by_its_bytes(rt: HostRuntime) -> Result<(), Fail> {
     let again = large.clone()?;
     assert!(rt; again == large);
     assert_eq!(rt; again.as_str(), "a");
+    Ok(())
+}
+
+#[test]
+fn a_named_list_gives_its_items_back(rt: HostRuntime) -> Result<(), Fail> {
+    let names = vec![in rt.alloc();
+        Text::copy_of(rt.alloc(), "b")?,
+        Text::copy_of(rt.alloc(), "a")?,
+    ]?;
+    let list = NamedList::of(rt.alloc(), names)?.ok_or("two of one name")?;
+    let items = Vec::from(list);
+    assert_eq!(rt; items.len(), 2);
+    assert_eq!(rt; items[0].as_str(), "b");
     Ok(())
 }

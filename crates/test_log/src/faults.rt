@@ -1,129 +1,58 @@
-// Faults, in whatever pieces they come.
-use crate::words::{add_words, words_of};
-use reg_adapter::{MessageError, MessageFault, Messages};
-use reg_records::{LINE_LIMIT, LineError};
-use std::alloc::Global;
+// Filters that end before their end, and what is said of errors.
+use reg_adapter::MessageError;
+use reg_compaction::{FilterError, compact};
+use reg_inspection::inspect;
+use std::alloc::{AllocError, Global};
+use std::io::ErrorKind;
+use test_tools::{FailingReader, FailingWriter};
 
-/// What comes before the fault, the line that has it, and the fault.
-static FAULTS: [(&str, &str, u64, MessageFault); 12] = [
-    ("keep\n", "", 1, MessageFault::NoMessage),
-    ("kept\n\nready\n", "kept; ", 2, MessageFault::NoMessage),
-    ("5\t{}\tnull\n", "", 1, MessageFault::NoMessage),
-    ("kept \n", "", 1, MessageFault::NoMessage),
-    ("batch\n\nready\n", "", 2, MessageFault::EmptyBatch),
-    (
-        "batch\nready\n",
-        "",
-        2,
-        MessageFault::Line(LineError::BadTabs),
-    ),
-    (
-        "lost\nbatch\n5\t{}\tnull\n05\t{}\tnull\n\n",
-        "lost; ",
-        4,
-        MessageFault::Line(LineError::BadOffset),
-    ),
-    (
-        "batch\n5\t{}\tnull\n7\t{}\tnull\n\nready\n",
-        "",
-        3,
-        MessageFault::Gap,
-    ),
-    (
-        "batch\n5\t{}\tnull\n5\t{}\tnull\n\nready\n",
-        "",
-        3,
-        MessageFault::Gap,
-    ),
-    (
-        "ready\nlos",
-        "ready; ",
-        2,
-        MessageFault::Line(LineError::Truncated),
-    ),
-    ("ready\nbatch\n", "ready; ", 3, MessageFault::Unended),
-    (
-        "batch\n5\t{}\tnull\n\nbatch\n6\t{}\tnull\n",
-        "batch 5*; ",
-        6,
-        MessageFault::Unended,
-    ),
-];
+/// A log of one line.
+const LOG: &[u8] = b"0\tx\ty\n";
 
-#[test]
-fn the_first_fault_is_reported_whatever_the_pieces(rt: HostRuntime) {
-    for (text, before, line, fault) in &FAULTS {
-        for size in 1..=text.len() {
-            let (words, ended) = words_of(rt.alloc(), text, size);
-            let wanted = Err(MessageError::Fault {
-                line: *line,
-                fault: *fault,
-            });
-            assert_eq!(rt;
-                (words.as_str(), ended),
-                (*before, wanted),
-                "{text}, in pieces of {size}"
-            );
-        }
+/// A writer whose first writes and flushes fail.
+fn failing(writes: u64, flushes: u64) -> FailingWriter {
+    FailingWriter {
+        kind: ErrorKind::Other,
+        writes,
+        flushes,
+        is_flushed: false,
     }
 }
 
-/// What comes of a line of so many bytes that has no LF yet, behind `ready` or within a batch; asked for twice.
-fn long_line(
-    alloc: Global,
-    front: &str,
-    len: usize,
-) -> Result<[Result<(), MessageError>; 2], MessageError> {
-    let mut bytes = Vec::new(alloc);
-    bytes.extend_from_slice(front.as_bytes())?;
-    bytes.resize(front.len().saturating_add(len), b'1')?;
-    let mut messages = Messages::new(alloc);
-    messages.take(&bytes)?;
-    let mut words = String::new(alloc);
-    let first = add_words(&mut words, &mut messages);
-    let second = add_words(&mut words, &mut messages);
-    Ok([first, second])
-}
-
 #[test]
-fn a_line_is_too_long_before_it_is_whole(rt: HostRuntime) -> Result<(), MessageError> {
-    let fault = MessageFault::Line(LineError::TooLong);
-    let too_long = Err(MessageError::Fault { line: 2, fault });
-    for front in &["ready\n", "batch\n"] {
-        assert_eq!(rt;
-            long_line(rt.alloc(), front, LINE_LIMIT)?,
-            [Ok(()), Ok(())],
-            "{front}"
-        );
-        assert_eq!(rt;
-            long_line(rt.alloc(), front, LINE_LIMIT + 1)?,
-            [too_long, too_long],
-            "{front}"
-        );
+fn a_lost_reader_or_writer_ends_a_filter(rt: HostRuntime) {
+    let alloc = rt.alloc();
+    let mut written = Vec::new(alloc);
+    let mut reader = FailingReader::new("", 0, ErrorKind::Other, u64::MAX);
+    let lost = compact(alloc, &mut reader, &mut written);
+    assert!(rt; lost == Err(FilterError::ReadFault) && written.is_empty());
+    // A write fails; and all bytes are taken, but not handed on.
+    for (writes, flushes) in [(u64::MAX, 0), (0, u64::MAX)] {
+        let mut log = LOG;
+        let lost = compact(alloc, &mut log, &mut failing(writes, flushes));
+        assert!(rt; lost == Err(FilterError::WriteFault));
     }
-    Ok(())
+    let mut log = LOG;
+    let lost = inspect(alloc, &mut log, &mut failing(0, u64::MAX));
+    assert!(rt; lost == Err(FilterError::WriteFault));
+}
+
+/// Whether a filter ends with that status and text.
+fn ends_with(alloc: Global, error: FilterError, wanted: &str) -> Result<bool, AllocError> {
+    let told = format!(in alloc; "{}: {error}", error.status())?;
+    Ok(told.as_str() == wanted)
 }
 
 #[test]
-fn faults_have_names(rt: HostRuntime) {
-    let fault = MessageFault::Line(LineError::BadTabs);
-    for (error, text) in &[
-        (MessageError::Fault { line: 3, fault }, "line 3: BadTabs"),
-        (
-            MessageError::Fault {
-                line: 1,
-                fault: MessageFault::NoMessage,
-            },
-            "line 1: NoMessage",
-        ),
-        (MessageError::OutOfMemory, "out of memory"),
+fn errors_are_told(rt: HostRuntime) -> Result<(), AllocError> {
+    for (error, wanted) in [
+        (FilterError::ReadFault, "1: ReadFault"),
+        (FilterError::WriteFault, "1: WriteFault"),
+        (FilterError::NoRoom, "2: no room for the floor"),
     ] {
-        assert_eq!(rt;
-            error
-                .to_string(rt.alloc())
-                .unwrap_or(String::new(rt.alloc()))
-                .as_str(),
-            *text
-        );
+        assert!(rt; ends_with(rt.alloc(), error, wanted)?, "{wanted}");
     }
+    let told = MessageError::OutOfMemory.to_string(rt.alloc())?;
+    assert_eq!(rt; told.as_str(), "out of memory");
+    Ok(())
 }

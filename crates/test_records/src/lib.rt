@@ -1,15 +1,13 @@
-//! Tests of records: their lines and values, devices that fail, sets of records, with a floor too, and registries, over the crates'
-//! public calls.
+//! Tests of records beside plain programs: sets of records and registries over lines that are drawn, large sets, devices that fail,
+//! and the texts of errors. Worked rows lie in `record_cases`.
 #![tactic(auto)]
 
 #[cfg(test)]
-mod kept;
+mod devices;
+#[cfg(test)]
+mod errors;
 #[cfg(test)]
 mod lines;
-#[cfg(test)]
-mod logs;
-#[cfg(test)]
-mod records;
 #[cfg(test)]
 mod registry;
 #[cfg(test)]

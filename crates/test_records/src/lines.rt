@@ -1,47 +1,69 @@
 // Logs that are written line by line, and their records.
-use reg_records::{Device, LogError, Record, read_log};
+use reg_fold::reg_records::{Device, LogError, Record, read_log};
 use std::alloc::{AllocError, Global};
 
-/// A line of a log: its offset, its key's written text, and its value's text, if it has one.
+/// A record, and the text of its key.
 #[derive(Clone, Copy)]
 pub(crate) struct Line<'a> {
-    pub offset: u64,
     pub key: &'a str,
-    pub value: Option<&'a str>,
+    pub record: &'a Record,
 }
 
 impl<'a> Line<'a> {
-    /// What the records of one key are ordered by.
-    pub(crate) fn age(self) -> (u64, Option<&'a str>) {
-        (self.offset, self.value)
+    /// What records are ordered by: the offset, the text of the key, then no value before a text.
+    pub(crate) fn place(self) -> (u64, &'a str, Option<&'a str>) {
+        let value = self.record.value.as_ref().map(|text| text.as_str());
+        (self.record.offset, self.key, value)
     }
 }
 
-/// The log of some lines.
-pub(crate) fn log_of(alloc: Global, lines: &[Line]) -> Result<String, AllocError> {
-    let mut out = String::new(alloc);
-    for line in lines {
-        let value = line.value.unwrap_or("null");
-        writeln!(out, "{}\t{}\t{value}", line.offset, line.key)?;
-    }
-    Ok(out)
+/// A log, and the keys of its lines.
+#[derive(Drop)]
+pub(crate) struct Log {
+    keys: Vec<String>,
+    text: String,
 }
 
-/// The records of some lines, as the library reads them.
-pub(crate) fn records_of(alloc: Global, lines: &[Line]) -> Result<Vec<Record>, LogError> {
-    let log = log_of(alloc, lines)?;
-    let mut reader = Device::new(log.as_bytes());
-    Ok(read_log(alloc, &mut reader)?.records)
-}
-
-/// Whether a record is that of a line of its key, or none is.
-pub(crate) fn is_of_line(found: Option<&Record>, line: Option<Line>) -> bool {
-    match (found, line) {
-        (Some(record), Some(line)) => {
-            let value = record.value.as_ref().map(|text| text.as_str());
-            (record.offset, value) == line.age()
+impl Log {
+    pub(crate) fn new(alloc: Global) -> Log {
+        Log {
+            keys: Vec::new(alloc),
+            text: String::new(alloc),
         }
-        (None, None) => true,
-        _ => false,
+    }
+
+    /// Adds a line.
+    pub(crate) fn push(
+        &mut self,
+        alloc: Global,
+        offset: u64,
+        key: &str,
+        value: &str,
+    ) -> Result<(), AllocError> {
+        writeln!(self.text, "{offset}\t{key}\t{value}")?;
+        self.keys.push(String::from_str(alloc, key)?)?;
+        Ok(())
+    }
+
+    /// The records of the lines, as the library reads them.
+    pub(crate) fn records(&self, alloc: Global) -> Result<Vec<Record>, LogError> {
+        let mut reader = Device::new(self.text.as_bytes());
+        Ok(read_log(alloc, &mut reader)?.records)
+    }
+
+    /// The records with the texts of their keys.
+    pub(crate) fn lines<'a>(
+        &'a self,
+        alloc: Global,
+        records: &'a [Record],
+    ) -> Result<Vec<Line<'a>>, AllocError> {
+        let mut lines = Vec::new(alloc);
+        for (key, record) in self.keys.iter().zip(records) {
+            lines.push(Line {
+                key: key.as_str(),
+                record,
+            })?;
+        }
+        Ok(lines)
     }
 }

@@ -1,44 +1,23 @@
-// Registries over small logs, in every order of their lines, and beside plain ones.
-mod answers;
+// Registries beside plain ones, over lines that are drawn.
+mod drawn;
 mod plain;
-mod rows;
-mod side_by_side;
 
-use crate::logs::{Line, in_order, records_of};
-use answers::{Ask, answer};
-use plain::PlainRegistry;
-use reg_fold::Registry;
-use reg_records::{LogError, Record};
-use reg_set::RecordSet;
-use rows::{ENTRIES, LEVELS, LIVE, MARKS};
-use side_by_side::is_like;
+use drawn::drawn;
+use plain::{NUMBERS, PlainRegistry, SUBJECTS};
+use reg_fold::reg_records::{LogError, Record};
+use reg_fold::reg_set::RecordSet;
+use reg_fold::{Entry, Registry};
 use std::alloc::{AllocError, Global};
+use test_tools::Draws;
 
-/// What a row shows, the lines of a log, and what the registry answers in each order of them.
-struct Row {
-    what: &'static str,
-    lines: &'static [Line],
-    answers: &'static [(Ask, &'static str)],
-}
-
-/// How a registry takes records: read from a set, added one by one, in one go, in batches of a record
-/// and the tombstones after it, in such batches beside other registries, or in two goes of which the
-/// later records are the first.
+/// How a registry takes records: added one by one, in batches of a record and the tombstones after it, in such batches beside other
+/// registries, or in two goes of which the later records are the first.
 #[derive(Clone, Copy)]
 enum Way {
-    Read,
     Grown,
-    Filled,
     Batched,
     Beside,
     Halved,
-}
-
-/// What a registry is held against.
-#[derive(Clone, Copy)]
-enum Wanted<'a> {
-    Answers(&'static [(Ask, &'static str)]),
-    Plain(&'a PlainRegistry),
 }
 
 fn grow(registry: &mut Registry, records: &[Record]) -> Result<(), AllocError> {
@@ -116,18 +95,11 @@ fn add(
     way: Way,
 ) -> Result<(), AllocError> {
     match way {
-        Way::Halved => fill_in_halves(registry, records),
+        Way::Grown => grow(registry, records),
         Way::Batched => fill_in_batches(registry, records, &[]),
         Way::Beside => fill_beside(alloc, registry, records),
-        Way::Filled => registry.apply_all(records),
-        Way::Grown | Way::Read => grow(registry, records),
+        Way::Halved => fill_in_halves(registry, records),
     }
-}
-
-fn added(alloc: Global, records: &[Record], way: Way) -> Result<Registry, AllocError> {
-    let mut registry = Registry::empty(alloc);
-    add(alloc, &mut registry, records, way)?;
-    Ok(registry)
 }
 
 fn read(alloc: Global, records: &[Record]) -> Result<Registry, AllocError> {
@@ -135,134 +107,123 @@ fn read(alloc: Global, records: &[Record]) -> Result<Registry, AllocError> {
     Registry::of_set(alloc, &set)
 }
 
-fn registry_of(alloc: Global, records: &[Record], way: Way) -> Result<Registry, AllocError> {
-    match way {
-        Way::Read => read(alloc, records),
-        Way::Grown | Way::Filled | Way::Batched | Way::Beside | Way::Halved => added(
-            alloc, records, way,
-        ),
+/// Whether those are the plain entries, or the live ones of a subject.
+fn are_entries(found: &[&Entry], plain: &PlainRegistry, of: Option<&str>) -> bool {
+    let mut left = found.iter();
+    for wanted in &plain.entries {
+        match (of, left.as_slice().first()) {
+            (Some(subject), _) if wanted.subject.as_str() != subject || wanted.soft => {}
+            (_, Some(entry)) if **entry == *wanted => {
+                left.next();
+            }
+            _ => return false,
+        }
     }
+    left.next().is_none()
 }
 
-fn is_answered(
-    alloc: Global,
-    registry: &Registry,
-    ask: Ask,
-    wanted: &str,
-) -> Result<bool, AllocError> {
-    Ok(answer(alloc, registry, ask)?.as_str() == wanted)
+fn have_ids(registry: &Registry, plain: &PlainRegistry) -> bool {
+    for id in 0..=NUMBERS {
+        if registry.by_id(id) != plain.by_id(id) {
+            return false;
+        }
+    }
+    registry.greatest_id() == plain.greatest_id()
+        && registry.two_schemas() == plain.two_schemas()
+        && registry.opaque() == plain.opaque
+        && registry.mark() == plain.mark
 }
 
-fn are_answered(
-    alloc: Global,
-    registry: &Registry,
-    answers: &[(Ask, &str)],
-) -> Result<bool, AllocError> {
-    for (ask, wanted) in answers {
-        if !is_answered(alloc, registry, *ask, wanted)? {
+fn have_subjects(registry: &Registry, plain: &PlainRegistry) -> Result<bool, AllocError> {
+    for subject in &SUBJECTS {
+        if registry.greatest_version(subject) != plain.greatest_version(subject)
+            || !are_entries(&registry.live(subject)?, plain, Some(subject))
+        {
             return Ok(false);
         }
     }
     Ok(true)
 }
 
-fn meets(alloc: Global, registry: &Registry, wanted: Wanted) -> Result<bool, AllocError> {
-    match wanted {
-        Wanted::Answers(answers) => are_answered(alloc, registry, answers),
-        Wanted::Plain(plain) => is_like(registry, plain),
+fn have_schemas(registry: &Registry, plain: &PlainRegistry) -> Result<bool, AllocError> {
+    for normal in ["\"int\"", "\"long\"", "\"string\""] {
+        if registry.id_of(normal)? != plain.id_of(normal) {
+            return Ok(false);
+        }
     }
+    Ok(true)
 }
 
-/// Whether the registry that takes the records so is as it should be.
-fn way_meets(
+/// Whether a registry gives the same answers as a plain one to all that is asked.
+fn is_like(registry: &Registry, plain: &PlainRegistry) -> Result<bool, AllocError> {
+    Ok(
+        are_entries(&registry.entries()?, plain, None)
+            && have_ids(registry, plain)
+            && have_subjects(registry, plain)?
+            && have_schemas(registry, plain)?,
+    )
+}
+
+/// Whether a registry that takes the records so is like the plain one.
+fn way_alike(
     alloc: Global,
     records: &[Record],
     way: Way,
-    wanted: Wanted,
+    plain: &PlainRegistry,
 ) -> Result<bool, AllocError> {
-    meets(alloc, &registry_of(alloc, records, way)?, wanted)
-}
-
-fn ways_meet(
-    alloc: Global,
-    records: &[Record],
-    ways: [Way; 4],
-    wanted: Wanted,
-) -> Result<bool, AllocError> {
-    for way in ways {
-        if !way_meets(alloc, records, way, wanted)? {
-            return Ok(false);
-        }
-    }
-    Ok(true)
-}
-
-/// Whether the row holds in one order of its lines, whichever way they are added.
-fn order_holds(alloc: Global, row: &Row, order: usize) -> Result<bool, LogError> {
-    let lines = in_order(alloc, row.lines, order)?;
-    let records = records_of(alloc, &lines)?;
-    let ways = [Way::Read, Way::Grown, Way::Filled, Way::Beside];
-    Ok(ways_meet(alloc, &records, ways, Wanted::Answers(row.answers))?)
-}
-
-/// How many orders so many lines have.
-const ORDERS: [usize; 7] = [1, 1, 2, 6, 24, 120, 720];
-
-fn orders_hold(alloc: Global, row: &Row) -> Result<bool, LogError> {
-    let Some(orders) = ORDERS.get(row.lines.len()) else {
-        return Ok(false);
-    };
-    for order in 0..*orders {
-        if !order_holds(alloc, row, order)? {
-            return Ok(false);
-        }
-    }
-    Ok(true)
-}
-
-#[test]
-fn the_last_records_give_the_answers(rt: HostRuntime) {
-    let tables: [&[Row]; 4] = [&LIVE, &ENTRIES, &LEVELS, &MARKS];
-    for rows in tables {
-        for row in rows {
-            assert!(rt; orders_hold(rt.alloc(), row) == Ok(true), "{}", row.what);
-        }
-    }
-}
-
-/// Whether the registry's copy of the record is that record.
-fn copy_holds(registry: &Registry, record: &Record) -> Result<bool, AllocError> {
-    Ok(registry.copy_of(record)? == *record)
-}
-
-/// The registry and the records are lent, so that none has to be dropped on the way.
-fn copies_hold_in(registry: &mut Registry, records: &[Record]) -> Result<bool, AllocError> {
-    grow(registry, records)?;
-    for record in records {
-        if !copy_holds(registry, record)? {
-            return Ok(false);
-        }
-    }
-    Ok(true)
-}
-
-fn all_copies_hold(alloc: Global, records: &[Record]) -> Result<bool, AllocError> {
     let mut registry = Registry::empty(alloc);
-    copies_hold_in(&mut registry, records)
+    add(alloc, &mut registry, records, way)?;
+    is_like(&registry, plain)
 }
 
-/// Whether each record's copy, as a registry over all of them gives it, is that record.
-fn copies_hold(alloc: Global, row: &Row) -> Result<bool, LogError> {
-    let records = records_of(alloc, row.lines)?;
-    Ok(all_copies_hold(alloc, &records)?)
+/// Whether registries that take the first records one by one are like plain ones.
+fn fronts_alike(alloc: Global, records: &[Record]) -> Result<bool, AllocError> {
+    for count in 0..records.len() {
+        let front = &records[..count];
+        let plain = PlainRegistry::of(alloc, front)?;
+        if !way_alike(alloc, front, Way::Grown, &plain)? {
+            return Ok(false);
+        }
+    }
+    Ok(true)
 }
+
+fn are_alike(alloc: Global, records: &[Record]) -> Result<bool, AllocError> {
+    let plain = PlainRegistry::of(alloc, records)?;
+    for way in [Way::Batched, Way::Beside, Way::Halved] {
+        if !way_alike(alloc, records, way, &plain)? {
+            return Ok(false);
+        }
+    }
+    Ok(is_like(&read(alloc, records)?, &plain)? && fronts_alike(alloc, records)?)
+}
+
+fn drawn_alike(
+    alloc: Global,
+    draws: &mut Draws,
+    count: u64,
+    offsets: u64,
+) -> Result<bool, LogError> {
+    let records = drawn(alloc, draws, count, offsets)?;
+    Ok(records.len() as u64 == count && are_alike(alloc, &records)?)
+}
+
+/// How many lists of lines are drawn, of how many lines each, and below which offset.
+static LISTS: [(u64, u64, u64); 5] = [
+    (40, 6, 3),
+    (60, 12, 8),
+    (20, 12, 1_000),
+    (2, 40, 20),
+    (2, 40, 1_000_000),
+];
 
 #[test]
-fn copies_are_the_records(rt: HostRuntime) {
-    let tables: [&[Row]; 4] = [&LIVE, &ENTRIES, &LEVELS, &MARKS];
-    for rows in tables {
-        for row in rows {
-            assert!(rt; copies_hold(rt.alloc(), row) == Ok(true), "{}", row.what);
+fn drawn_lines_give_the_same_registry(rt: HostRuntime) {
+    let mut draws = Draws::new(2027);
+    for (lists, lines, offsets) in &LISTS {
+        for _list in 0..*lists {
+            let is_alike = drawn_alike(rt.alloc(), &mut draws, *lines, *offsets);
+            assert!(rt; is_alike == Ok(true));
         }
     }
 }

@@ -1,19 +1,9 @@
-//! Tests of levels, judgements, modes, queries and commands over the public calls.
+//! Tests of the rules beside the cases of `rule_cases`: what judges keep, large checks, and fast calls beside plain programs.
 #![tactic(auto)]
 
 #[cfg(test)]
-mod commands;
+mod kept;
 #[cfg(test)]
-mod judgements;
-#[cfg(test)]
-mod levels;
-#[cfg(test)]
-mod logs;
+mod large;
 #[cfg(test)]
 mod looking;
-#[cfg(test)]
-mod modes;
-#[cfg(test)]
-mod queries;
-#[cfg(test)]
-mod schemas;

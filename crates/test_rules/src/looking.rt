@@ -1,8 +1,8 @@
 // What is fetched of a subject's live versions, beside plain programs, which go through all of them.
-use crate::logs::registry_of;
-use reg_fold::{Entry, Registry};
-use reg_level_names::Level;
-use reg_levels::looked_at;
+use reg_rules::reg_fold::{Entry, Registry};
+use reg_rules::reg_level_names::Level;
+use reg_rules::reg_levels::looked_at;
+use reg_rules::reg_records::{Read, read_line};
 use reg_rules::{live_import, live_looked_at, live_schema};
 use std::alloc::{AllocError, Global};
 use std::test::Fail;
@@ -38,6 +38,19 @@ static NORMALS: [&str; 6] = [
     r#""float""#,
     r#""double""#,
 ];
+
+/// Adds the records of a log, which has a `|` in the place of each TAB.
+fn fill(alloc: Global, registry: &mut Registry, log: &str) -> Result<(), Fail> {
+    for line in log.lines() {
+        let mut text = line.replace(alloc, "|", "\t")?;
+        text.push('\n')?;
+        match read_line(alloc, text.as_bytes())? {
+            Read::Record(record) => registry.apply(&record)?,
+            Read::Foreign(_) => return Err(Fail::from("a record")),
+        }
+    }
+    Ok(())
+}
 
 /// Whether these are the same entries.
 fn are_same(plain: &[&Entry], found: &[&Entry]) -> bool {
@@ -79,31 +92,27 @@ fn levels_agree(alloc: Global, registry: &Registry, subject: &str) -> Result<boo
     Ok(true)
 }
 
-/// Whether a schema is found live in a subject, with the id 1 too, where the plain program finds it.
-fn schema_agrees(registry: &Registry, subject: &str, normal: &str) -> Result<bool, AllocError> {
-    let live = registry.live(subject)?;
-    let schema = version_of(live_schema(registry, subject, normal)?);
-    let import = version_of(live_import(registry, subject, 1, normal)?);
-    Ok(schema == last_with(&live, normal, None) && import == last_with(&live, normal, Some(1)))
-}
-
+/// Whether each schema is found live in a subject, with the id 1 too, where the plain program finds it.
 fn schemas_agree(registry: &Registry, subject: &str) -> Result<bool, AllocError> {
+    let live = registry.live(subject)?;
     for normal in &NORMALS {
-        if !schema_agrees(registry, subject, normal)? {
+        let schema = version_of(live_schema(registry, subject, normal)?);
+        let import = version_of(live_import(registry, subject, 1, normal)?);
+        let plain = (
+            last_with(&live, normal, None),
+            last_with(&live, normal, Some(1)),
+        );
+        if (schema, import) != plain {
             return Ok(false);
         }
     }
     Ok(true)
 }
 
-fn agrees(alloc: Global, registry: &Registry, subject: &str) -> Result<bool, AllocError> {
-    Ok(levels_agree(alloc, registry, subject)? && schemas_agree(registry, subject)?)
-}
-
 /// The first subject of which something else is fetched.
 fn first_other(alloc: Global, registry: &Registry) -> Result<Option<&'static str>, AllocError> {
     for subject in &SUBJECTS {
-        if !agrees(alloc, registry, subject)? {
+        if !levels_agree(alloc, registry, subject)? || !schemas_agree(registry, subject)? {
             return Ok(Some(subject));
         }
     }
@@ -113,7 +122,8 @@ fn first_other(alloc: Global, registry: &Registry) -> Result<Option<&'static str
 #[test]
 fn what_is_fetched_is_what_is_looked_at(rt: HostRuntime) -> Result<(), Fail> {
     let alloc = rt.alloc();
-    let registry = registry_of(alloc, LOG)?;
+    let mut registry = Registry::empty(alloc);
+    fill(alloc, &mut registry, LOG)?;
     assert_eq!(rt; first_other(alloc, &registry)?, None);
     Ok(())
 }

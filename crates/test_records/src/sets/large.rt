@@ -1,8 +1,7 @@
 // Sets that take thousands of records, and hold them all, and copies of last records.
-use super::side_by_side::{keys, wide};
-use crate::lines::records_of;
-use reg_records::{LogError, Record};
-use reg_set::{LastRecords, RecordSet, TakeOutcome};
+use super::side_by_side::wide;
+use reg_fold::reg_records::{LogError, Record};
+use reg_fold::reg_set::{LastRecords, RecordSet, TakeOutcome};
 use std::alloc::{AllocError, Global};
 
 /// Takes records in turn, and tells whether that is said of each.
@@ -41,14 +40,11 @@ fn hold(alloc: Global, records: &[Record], in_order: &[Record]) -> Result<bool, 
 }
 
 /// Whether that is so of so many records, in rising order and in falling order.
-fn are_held(alloc: Global, count: u32) -> Result<bool, LogError> {
-    let keys = keys(alloc, count)?;
-    let mut lines = wide(alloc, &keys, 1)?;
-    let rising = records_of(alloc, &lines)?;
-    lines.reverse();
-    let falling = records_of(alloc, &lines)?;
+fn are_held(alloc: Global, count: u64) -> Result<bool, LogError> {
+    let rising = wide(alloc, count, 1, true)?.records(alloc)?;
+    let falling = wide(alloc, count, 1, false)?.records(alloc)?;
     Ok(
-        rising.len() as u64 == u64::from(count)
+        rising.len() as u64 == count
             && hold(alloc, &rising, &rising)?
             && hold(alloc, &falling, &rising)?,
     )
@@ -56,7 +52,7 @@ fn are_held(alloc: Global, count: u32) -> Result<bool, LogError> {
 
 #[test]
 fn a_set_takes_thousands_of_records(rt: HostRuntime) {
-    assert!(rt; matches!(are_held(rt.alloc(), 2_000), Ok(true)));
+    assert!(rt; are_held(rt.alloc(), 2_000) == Ok(true));
 }
 
 /// Whether each record is the last of its key, and there are no others.
@@ -70,9 +66,8 @@ fn are_lasts(alloc: Global, lasts: &LastRecords, records: &[Record]) -> Result<b
 }
 
 /// Whether a copy of so many last records has these, and still does where the original loses them.
-fn is_copied(alloc: Global, count: u32) -> Result<bool, LogError> {
-    let keys = keys(alloc, count)?;
-    let records = records_of(alloc, &wide(alloc, &keys, 1)?)?;
+fn is_copied(alloc: Global, count: u64) -> Result<bool, LogError> {
+    let records = wide(alloc, count, 1, true)?.records(alloc)?;
     let mut lasts = LastRecords::new(alloc);
     for record in &records {
         lasts.put(record)?;
@@ -84,17 +79,9 @@ fn is_copied(alloc: Global, count: u32) -> Result<bool, LogError> {
     Ok(are_lasts(alloc, &copy, &records)? && are_lasts(alloc, &lasts, &[])?)
 }
 
-/// Whether that is so of numbers of records around those that fill a node, and nodes of nodes.
-fn are_copied(alloc: Global) -> Result<bool, LogError> {
-    for count in [0, 1, 15, 16, 17, 255, 256, 271, 2_000] {
-        if !is_copied(alloc, count)? {
-            return Ok(false);
-        }
-    }
-    Ok(true)
-}
-
 #[test]
 fn copies_of_last_records_have_them_all(rt: HostRuntime) {
-    assert!(rt; matches!(are_copied(rt.alloc()), Ok(true)));
+    for count in [0, 1, 15, 16, 17, 255, 256, 271, 2_000] {
+        assert!(rt; is_copied(rt.alloc(), count) == Ok(true), "{count}");
+    }
 }

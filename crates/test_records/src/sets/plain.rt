@@ -1,14 +1,8 @@
 // A set of records as the list of their lines in order, each of whose answers looks at all lines.
 use crate::lines::Line;
-use reg_set::TakeOutcome;
+use reg_fold::reg_records::Record;
+use reg_fold::reg_set::TakeOutcome;
 use std::alloc::{AllocError, Global};
-
-/// By offset, then by the text of the key, then by value.
-type Place<'a> = (u64, &'a str, Option<&'a str>);
-
-fn place_of(line: Line) -> Place {
-    (line.offset, line.key, line.value)
-}
 
 #[derive(Drop)]
 pub(crate) struct PlainSet<'a> {
@@ -23,70 +17,48 @@ impl<'a> PlainSet<'a> {
         }
     }
 
-    pub(crate) fn take(
-        &mut self,
-        alloc: Global,
-        given: Line<'a>,
-    ) -> Result<TakeOutcome, AllocError> {
+    pub(crate) fn take(&mut self, given: Line<'a>) -> Result<TakeOutcome, AllocError> {
         if self.contains(given) {
             return Ok(TakeOutcome::Repeat);
         }
-        let taken = match self.last(given.key) {
-            Some(last) if given.age() < last.age() => TakeOutcome::Older,
-            _ => TakeOutcome::Fresh,
-        };
-        self.place(alloc, given)?;
-        Ok(taken)
-    }
-
-    fn place(&mut self, alloc: Global, given: Line<'a>) -> Result<(), AllocError> {
-        let mut lines = Vec::new(alloc);
-        let mut is_placed = false;
-        for line in &self.lines {
-            if !is_placed && place_of(given) < place_of(*line) {
-                lines.push(given)?;
-                is_placed = true;
-            }
-            lines.push(*line)?;
-        }
-        if !is_placed {
-            lines.push(given)?;
-        }
-        self.lines = lines;
-        Ok(())
+        self.lines.push(given)?;
+        self.lines.sort_by_key(|line| line.place())?;
+        Ok(if self.has_last(given) {
+            TakeOutcome::Fresh
+        } else {
+            TakeOutcome::Older
+        })
     }
 
     pub(crate) fn contains(&self, given: Line) -> bool {
         for line in &self.lines {
-            if place_of(*line) == place_of(given) {
+            if line.place() == given.place() {
                 return true;
             }
         }
         false
     }
 
-    pub(crate) fn last(&self, key: &str) -> Option<Line<'a>> {
+    /// Of the records of a key the one of greatest offset; at one offset that of greatest value.
+    pub(crate) fn last(&self, key: &str) -> Option<&'a Record> {
         let mut found: Option<Line<'a>> = None;
         for line in &self.lines {
             match found {
                 _ if line.key != key => {}
-                Some(last) if line.age() < last.age() => {}
+                Some(last) if line.place() < last.place() => {}
                 _ => found = Some(*line),
             }
         }
-        found
+        found.map(|line| line.record)
     }
 
     fn has_last(&self, given: Line) -> bool {
-        match self.last(given.key) {
-            Some(last) => last.age() == given.age(),
-            None => false,
-        }
+        self.last(given.key) == Some(given.record)
     }
 
-    pub(crate) fn merge(&mut self, alloc: Global, other: &PlainSet<'a>) -> Result<(), AllocError> {
+    pub(crate) fn merge(&mut self, other: &PlainSet<'a>) -> Result<(), AllocError> {
         for line in &other.lines {
-            self.take(alloc, *line)?;
+            self.take(*line)?;
         }
         Ok(())
     }
@@ -103,15 +75,6 @@ impl<'a> PlainSet<'a> {
         Ok(())
     }
 
-    fn is_part_of(&self, whole: &PlainSet) -> bool {
-        for line in &self.lines {
-            if !whole.contains(*line) {
-                return false;
-            }
-        }
-        true
-    }
-
     /// Whether the set is a part of another that has each of its last records.
     pub(crate) fn keeps_lasts(&self, whole: &PlainSet) -> bool {
         for line in &whole.lines {
@@ -119,6 +82,11 @@ impl<'a> PlainSet<'a> {
                 return false;
             }
         }
-        self.is_part_of(whole)
+        for line in &self.lines {
+            if !whole.contains(*line) {
+                return false;
+            }
+        }
+        true
     }
 }

@@ -1,0 +1,207 @@
+// Numbers on a page, what the system and an adapter say, and requests for pages.
+use crate::form::{Came, CaseError, Form, shown};
+use crate::replies::WORDS;
+use exposition::{Family, page_text};
+use reg_meters::{ConnectionTally, Ending, RequestClass, StatusClass, Traffic};
+use reg_metrics::{
+    AdapterMeters, AdapterWord, BatchMeters, FileMeters, LineMeters, Stage, WordFinder,
+    adapter_families, answer_to, asked_in, batch_families, file_families, line_families,
+    numbers_in, process_families, stage_families, started_in, traffic_families,
+};
+use std::alloc::{AllocError, Global};
+use test_tools::{bytes_of, cut};
+
+static CLASSES: [RequestClass; 4] = [
+    RequestClass::Lookup,
+    RequestClass::Check,
+    RequestClass::Command,
+    RequestClass::Refused,
+];
+
+static STATUSES: [StatusClass; 3] = [
+    StatusClass::Success,
+    StatusClass::ClientError,
+    StatusClass::ServerError,
+];
+
+static ENDINGS: [Ending; 5] = [
+    Ending::Done,
+    Ending::Late,
+    Ending::Room,
+    Ending::Memory,
+    Ending::Failed,
+];
+
+/// A process' line, as Linux has it (proc(5)), of a program whose name has a bracket.
+const STAT: &str =
+    "42 (a) b) S 1 42 42 0 -1 4194560 900 0 0 0 20 15 0 0 20 0 9 0 5000 8192000 250 1844674407 1 1 0 0\n";
+
+/// Counts requests, each class and status once more than the one before and 50 microseconds longer, and 40 connections, of which
+/// 15 were closed.
+fn count_traffic(traffic: &Traffic) {
+    let mut times = 0u64;
+    for class in &CLASSES {
+        for status in &STATUSES {
+            times = times.saturating_add(1);
+            for _answer in 0..times {
+                traffic.count(*class, *status, 10, 100, times.saturating_mul(50));
+            }
+        }
+    }
+    let mut tally = ConnectionTally::new();
+    for _connection in 0..40u64 {
+        tally.accept();
+    }
+    for (place, ending) in ENDINGS.iter().enumerate() {
+        for _connection in 0..=place {
+            tally.close(*ending);
+        }
+    }
+    traffic.connections.count(tally);
+}
+
+fn count_log(batches: &BatchMeters, file: &FileMeters) {
+    batches.kept.add(2);
+    batches.declined.add(3);
+    batches.lost.add(4);
+    batches.overtaken.add(5);
+    batches.seconds.count(1_000_000);
+    batches.seconds.count(5_000_001);
+    file.records.add(6);
+    file.lines.set(7);
+    file.bytes.set(8);
+    file.next.set(9);
+    file.renewed.add(2);
+    file.not_renewed.add(1);
+    file.renewal.add(1_500_000);
+    file.is_uncompacted.set(true);
+}
+
+/// All families, each with its numbers.
+fn families(alloc: Global) -> Result<Vec<Family>, AllocError> {
+    let mut out = Vec::new(alloc);
+    stage_families(alloc, "1.2", "keep", Stage::Lost, &mut out)?;
+    let traffic = Traffic::new();
+    count_traffic(&traffic);
+    traffic_families(alloc, &traffic, &mut out)?;
+    let (batches, file) = (BatchMeters::new(), FileMeters::new());
+    count_log(&batches, &file);
+    batch_families(alloc, &batches, &mut out)?;
+    file_families(alloc, &file, &mut out)?;
+    let lines = LineMeters::new();
+    lines.lines.add(12);
+    lines.last.set(1_700_000_000_250_000);
+    line_families(alloc, &lines, &mut out)?;
+    let adapter = AdapterMeters::new();
+    adapter.kept.add(1);
+    adapter.behind.add(2);
+    adapter.declined.add(3);
+    adapter.last.set(1_700_000_001_500_000);
+    adapter_families(alloc, &adapter, &mut out)?;
+    if let Some(numbers) = numbers_in(STAT) {
+        process_families(alloc, &numbers, 0, &mut out)?;
+    }
+    Ok(out)
+}
+
+/// The number of the line that begins so on a page.
+fn number_on<'p>(page: &'p str, name: &str) -> &'p str {
+    for line in page.lines() {
+        match line.rsplit_once(' ') {
+            Some((front, number)) if front == name => return number,
+            _ => {}
+        }
+    }
+    "no such line"
+}
+
+/// What the system says of a process.
+fn process_in(alloc: Global, stat: &str) -> Result<String, AllocError> {
+    let Some(it) = numbers_in(stat) else {
+        return String::from_str(alloc, "none");
+    };
+    let (cpu, begun, addresses, memory) = (it.cpu, it.begun, it.addresses, it.memory);
+    format!(in alloc; "cpu {cpu}, begun {begun}, addresses {addresses}, memory {memory}")
+}
+
+/// When the system started.
+fn start_in(alloc: Global, stat: &str) -> Result<String, AllocError> {
+    match started_in(stat) {
+        Some(start) => format!(in alloc; "{start}"),
+        None => String::from_str(alloc, "none"),
+    }
+}
+
+fn name_of(found: AdapterWord) -> &'static str {
+    for (name, word) in &WORDS {
+        if *word == found {
+            return *name;
+        }
+    }
+    ""
+}
+
+/// Adds the words in a piece of what an adapter says.
+fn add_words(words: &mut String, finder: &mut WordFinder, piece: &[u8]) -> Result<(), AllocError> {
+    let mut rest = piece;
+    for _line in 0..piece.len() {
+        if rest.is_empty() {
+            break;
+        }
+        let (len, word) = finder.take(rest);
+        rest = rest.get(len..).unwrap_or(&[]);
+        if let Some(word) = word {
+            write!(words, "{}\n", name_of(word))?;
+        }
+    }
+    Ok(())
+}
+
+/// The words in what an adapter says, a line each.
+fn words_in(alloc: Global, pieces: &str) -> Result<String, AllocError> {
+    let mut finder = WordFinder::new();
+    let mut words = String::new(alloc);
+    for piece in pieces.split(" & ") {
+        add_words(&mut words, &mut finder, &bytes_of(alloc, piece)?)?;
+    }
+    Ok(words)
+}
+
+/// What is asked for, and the response where a process is lost.
+fn response_to(alloc: Global, head: &[u8]) -> Came {
+    let asked = asked_in(head);
+    let response = shown(alloc, &answer_to(alloc, asked, Stage::Lost, b"a 1\n")?)?;
+    Ok(format!(in alloc; "{asked:?} {}", response.as_str())?)
+}
+
+/// A page, and what is asked about its numbers.
+#[derive(Drop)]
+pub(crate) struct Metrics {
+    page: String,
+}
+
+impl Metrics {
+    /// The page of all families.
+    pub(crate) fn new(alloc: Global) -> Result<Metrics, AllocError> {
+        let page = page_text(alloc, &families(alloc)?)?;
+        Ok(Metrics {
+            page: String::from_utf8_lossy(alloc, page.as_slice())?,
+        })
+    }
+}
+
+impl Form for Metrics {
+    fn came(&mut self, alloc: Global, asked: &str) -> Came {
+        let (command, rest) = cut(asked);
+        let bytes = bytes_of(alloc, rest)?;
+        let text = String::from_utf8_lossy(alloc, bytes.as_slice())?;
+        match command {
+            "page" => Ok(String::from_str(alloc, number_on(self.page.as_str(), rest))?),
+            "stat" => Ok(process_in(alloc, text.as_str())?),
+            "started" => Ok(start_in(alloc, text.as_str())?),
+            "words" => shown(alloc, words_in(alloc, rest)?.as_bytes()),
+            "request" => response_to(alloc, &bytes),
+            _ => Err(CaseError::NotUnderstood),
+        }
+    }
+}

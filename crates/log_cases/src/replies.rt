@@ -1,0 +1,102 @@
+// What an adapter replies, and how that is counted.
+use crate::form::{Came, CaseError, Form, number_in, try_lines};
+use reg_metrics::{AdapterMeters, AdapterReply, AdapterWord, BatchMeters};
+use std::alloc::{AllocError, Global};
+use test_tools::{Tally, cut, paragraphs_of};
+
+/// The words of an adapter.
+pub(crate) static WORDS: [(&str, AdapterWord); 5] = [
+    ("batch", AdapterWord::Batch),
+    ("kept", AdapterWord::Reply(AdapterReply::Kept)),
+    ("behind", AdapterWord::Reply(AdapterReply::Behind)),
+    ("declined", AdapterWord::Reply(AdapterReply::Declined)),
+    ("lost", AdapterWord::Reply(AdapterReply::Lost)),
+];
+
+fn word_in(text: &str) -> Result<AdapterWord, CaseError> {
+    for (name, word) in &WORDS {
+        if *name == text {
+            return Ok(*word);
+        }
+    }
+    Err(CaseError::NotUnderstood)
+}
+
+/// So many seconds, in microseconds.
+fn moment_in(text: &str) -> Result<u64, CaseError> {
+    Ok(number_in(text)?.saturating_mul(1_000_000))
+}
+
+/// The numbers of an adapter, and those of batches.
+#[derive(Drop)]
+struct Replies {
+    adapter: AdapterMeters,
+    batches: BatchMeters,
+}
+
+impl Replies {
+    /// Asks for a check or for a batch, and hears a word 100 microseconds later.
+    fn exchange(&self, is_check: bool, told: &str) -> Result<(), CaseError> {
+        let (second, word) = cut(told);
+        let (now, word) = (moment_in(second)?, word_in(word)?);
+        self.adapter.ask(is_check, now);
+        self.adapter
+            .hear(&self.batches, word, now.saturating_add(100), 7);
+        Ok(())
+    }
+
+    /// Hears a word at a second, which is so many microseconds since 1970.
+    fn hear(&self, told: &str) -> Result<(), CaseError> {
+        let (second, rest) = cut(told);
+        let (date, word) = cut(rest);
+        let (now, date, word) = (moment_in(second)?, number_in(date)?, word_in(word)?);
+        self.adapter.hear(&self.batches, word, now, date);
+        Ok(())
+    }
+
+    fn batch_counts(&self, alloc: Global) -> Result<String, AllocError> {
+        let it = &self.batches;
+        let (kept, overtaken) = (it.kept.count(), it.overtaken.count());
+        let (declined, lost) = (it.declined.count(), it.lost.count());
+        let took = it.seconds.sum();
+        format!(in alloc;
+            "kept {kept}, overtaken {overtaken}, declined {declined}, lost {lost}, took {took}"
+        )
+    }
+
+    fn check_counts(&self, alloc: Global) -> Result<String, AllocError> {
+        let it = &self.adapter;
+        let (kept, behind, declined) = (it.kept.count(), it.behind.count(), it.declined.count());
+        format!(in alloc; "kept {kept}, behind {behind}, declined {declined}")
+    }
+}
+
+impl Form for Replies {
+    fn came(&mut self, alloc: Global, asked: &str) -> Came {
+        let (command, rest) = cut(asked);
+        match command {
+            "batch" => self.exchange(false, rest)?,
+            "check" => self.exchange(true, rest)?,
+            "ask" => self.adapter.ask(false, moment_in(rest)?),
+            "hear" => self.hear(rest)?,
+            "batches" => return Ok(self.batch_counts(alloc)?),
+            "checks" => return Ok(self.check_counts(alloc)?),
+            "last" => return Ok(format!(in alloc; "{}", self.adapter.last.value())?),
+            "away" => return Ok(format!(in alloc; "{}", self.adapter.is_away(moment_in(rest)?))?),
+            _ => return Err(CaseError::NotUnderstood),
+        }
+        Ok(String::new(alloc))
+    }
+}
+
+/// Tries each paragraph, from new numbers on.
+pub(crate) fn try_replies(alloc: Global, tally: &mut Tally, text: &str) -> Result<(), AllocError> {
+    for paragraph in &paragraphs_of(alloc, text)? {
+        let mut replies = Replies {
+            adapter: AdapterMeters::new(),
+            batches: BatchMeters::new(),
+        };
+        try_lines(alloc, tally, paragraph, &mut replies)?;
+    }
+    Ok(())
+}

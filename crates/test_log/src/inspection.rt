@@ -1,3 +1,0 @@
-// What is said of a log.
-mod causes;
-mod reports;

@@ -1,3 +1,0 @@
-// Judges: what they answer, and what they keep.
-mod answers;
-mod kept;
