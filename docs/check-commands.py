@@ -177,4 +177,5 @@ def main():
     return 1 if any(faults) else 0
 
 
-raise SystemExit(main())
+if __name__ == "__main__":
+    raise SystemExit(main())

@@ -14,12 +14,14 @@ import subprocess
 import sys
 import tempfile
 import time
-from importlib.machinery import SourceFileLoader
+from importlib.util import module_from_spec, spec_from_file_location
 from pathlib import Path
 
 TOP = Path(__file__).resolve().parent.parent
 PATIENCE = 1800  # seconds until it serves: a busy machine takes long
-pages = SourceFileLoader("check_commands", str(TOP / "docs/check-commands.py")).load_module()
+made = spec_from_file_location("check_commands", TOP / "docs/check-commands.py")
+pages = module_from_spec(made)
+made.loader.exec_module(pages)
 
 
 def first_block(text):
