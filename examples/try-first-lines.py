@@ -46,8 +46,9 @@ def end(program):
     program.send_signal(signal.SIGTERM)
     program.wait(30)
     time.sleep(1)
-    left = subprocess.run(["ps", "-o", "pid=,args=", "-s", str(program.pid)], capture_output=True, text=True).stdout.strip()
-    return [f"what is left running: {left}"] if left else []
+    found = subprocess.run(["ps", "-o", "stat=,pid=,args=", "-s", str(program.pid)], capture_output=True, text=True).stdout
+    left = [line for line in found.splitlines() if not line.startswith("Z")]
+    return [f"what is left running: {line}" for line in left]
 
 
 def main():
