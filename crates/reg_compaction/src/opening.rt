@@ -12,18 +12,22 @@ use reg_journal::{
 };
 use std::alloc::Global;
 
-/// What opens another disk. It answers once the name of that disk's file is on the disk too, so that no crash can take
-/// the file away.
+/// What opens another disk, and gives its file a name.
 pub trait Opens<A: Disk> {
+    /// Opens a disk under a name of its own, so that a file that is there stays as it is.
     fn open_disk(&mut self) -> Result<A, DiskError>
         ensures { A.is_modelled → IfOk result A.known };
+
+    /// Gives the disk's file the name that it is to have, in the place of an older file, once all that it has is on the disk. It
+    /// answers once the name is on the disk too, so that no crash can take the file away.
+    fn put_in_place(&mut self, disk: &A) -> Result<(), DiskError>;
 }
 
 /// Where what stands behind a log is put: a disk that is opened only where something is.
 #[derive(Drop)]
 pub struct Aside<A: Disk + Drop, O> {
     pub opener: O,
-    /// The disk, once it is opened and has all that was put there.
+    /// The disk, once it is opened.
     pub disk: Option<A>,
 }
 
@@ -106,9 +110,21 @@ fn put_aside<A: Disk + Drop, O: Opens<A>>(
         return Ok(());
     }
     let mut disk = aside.opener.open_disk()?;
-    write_whole(&mut disk, bytes)?;
+    let written = write_and_put(&mut aside.opener, &mut disk, bytes);
     aside.disk = Some(disk);
-    Ok(())
+    written
+}
+
+/// Makes the bytes all that a disk has, and gives its file its name.
+fn write_and_put<A: Disk, O: Opens<A>>(
+    opener: &mut O,
+    disk: &mut A,
+    bytes: &[u8],
+) -> Result<(), JournalOpenError>
+    ensures { A.known disk.old → OnOk result ((A.seen disk.new ≡ bytes.now) × Only bytes.now (A.may_leave disk.new)) }
+{
+    write_whole(disk, bytes)?;
+    Ok(opener.put_in_place(disk)?)
 }
 
 /// Makes the bytes all that a disk has.

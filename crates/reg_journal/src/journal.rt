@@ -10,7 +10,7 @@ ghost use Rattle.reg_journal.specs.Renewal.{IsLostOrKept};
 
 use crate::batch::lines_of;
 use crate::disk::{Disk, DiskError};
-use crate::gate::{PutError, put};
+use crate::gate::{PutError, put_named};
 use crate::opening::Found;
 use crate::renewal::{RenewError, Renewable};
 use reg_records::{LOG_LINES, Record, WriteLineError};
@@ -28,9 +28,12 @@ pub enum AppendError {
     OutOfMemory,
     /// The file hasn't the length that it was left with. Nothing is written any more.
     Changed,
+    /// The path doesn't name the file any more: it was renamed, removed or replaced. The batch is in a file that a restart may
+    /// not find. Nothing is written any more.
+    Unnamed,
     /// The disk failed, or is full: the batch may be there or not. Nothing is written any more.
     Failed,
-    /// An earlier batch met `Changed` or `Failed`.
+    /// An earlier batch met `Changed`, `Unnamed` or `Failed`.
     Broken,
 }
 
@@ -44,6 +47,7 @@ impl From<PutError> for AppendError {
     fn from(error: PutError) -> AppendError {
         match error {
             PutError::Changed => AppendError::Changed,
+            PutError::Unnamed => AppendError::Unnamed,
             PutError::Failed => AppendError::Failed,
         }
     }
@@ -159,12 +163,13 @@ impl<D: Disk> Journal<D> {
         let _sound = !self.is_broken;
     }
 
-    /// Adds the batch's lines, all of them or none. At `Ok` they are acknowledged: from then on each crash leaves
-    /// a file that has them.
-    pub fn append(&mut self, alloc: Global, batch: &[Record]) -> Result<(), AppendError>
+    /// Adds the batch's lines, all of them or none, where so many lines stay free behind them. At `Ok` they are acknowledged:
+    /// from then on each crash leaves a file that has them, and the path named that file once they were on the disk.
+    pub fn append(&mut self, alloc: Global, batch: &[Record], free: u64) -> Result<(), AppendError>
         requires { All HasLine batch.now }
 
         ensures acknowledged { D.is_modelled → OnOk result (said (D.seen self.new.disk) ≡ with_batch batch.now (said (D.seen self.old.disk))) }
+        ensures named { D.is_modelled → OnOk result (D.named self.new.disk true) }
         ensures goes_on { OnOk result (self.new.is_broken ≡ false) }
 
         // A crash at any moment of the call leaves a file that says what it said before, or that with the whole batch.
@@ -177,21 +182,21 @@ impl<D: Disk> Journal<D> {
 
         // Each refusal comes only where its cause stands; that for too many lines wherever it does, and no batch is taken
         // that has a line which is too long.
-        ensures cause { IfErr result (λ e. HasCause D.is_modelled D.faults self.old batch.now e self.new) }
-        ensures many { self.old.is_broken ≡ false → LOG_LINES - self.old.lines < length batch.now → result ≡ Err AppendError.TooManyLines }
+        ensures cause { IfErr result (λ e. HasCause D.is_modelled D.faults D.named self.old batch.now free e self.new) }
+        ensures many { self.old.is_broken ≡ false → LOG_LINES - free - self.old.lines < length batch.now → result ≡ Err AppendError.TooManyLines }
         ensures short { OnOk result (All (λ r. length (line_text r) ≤ LINE_LIMIT) batch.now) }
     {
         if self.is_broken {
             return Err(AppendError::Broken);
         }
         let count = batch.len() as u64;
-        if count > LOG_LINES.saturating_sub(self.lines) {
+        if count > LOG_LINES.saturating_sub(free).saturating_sub(self.lines) {
             return Err(AppendError::TooManyLines);
         }
         let mut text = lines_of(alloc, batch)?;
         text.push(b'\n')?;
         self.is_broken = true;
-        put(&mut self.disk, self.end, &text)?;
+        put_named(&mut self.disk, self.end, &text)?;
         self.end += text.len() - 1;
         self.lines += count;
         self.is_broken = false;
