@@ -18,9 +18,9 @@ differ : (a b : Text) → bytes_eq a b ≡ false → ¬ (a ≡ b)
 differ a b apart same = true≢false (sym ((bytes_eq-Decides a b).1 same) ∙ apart)
 
 pub keep_alone : (rows : List Row)
-    → ((file : Bor (List ℕ)) (listen : SocketAddr) (nodes workers : ℕ) (metrics : Option SocketAddr) (quiet : Bool) → ¬ IsAskedBy (codes "keep", rows) (Keep file listen nodes workers metrics quiet))
+    → ((file : Bor (List ℕ)) (listen : SocketAddr) (nodes workers : ℕ) (metrics : Option SocketAddr) (quiet is_new : Bool) → ¬ IsAskedBy (codes "keep", rows) (Keep file listen nodes workers metrics quiet is_new))
     → (command : LogCommand) → ¬ IsAskedBy (codes "keep", rows) command
-keep_alone rows none (Keep file listen nodes workers metrics quiet) asked = none file listen nodes workers metrics quiet asked
+keep_alone rows none (Keep file listen nodes workers metrics quiet is_new) asked = none file listen nodes workers metrics quiet is_new asked
 keep_alone rows none (Follow listen nodes workers metrics) asked = differ _ _ refl asked.0
 keep_alone rows none (Join listen nodes workers metrics) asked = differ _ _ refl asked.0
 keep_alone rows none Rules asked = differ _ _ refl asked.0
@@ -33,7 +33,7 @@ pub follow_alone : (rows : List Row)
     → ((listen : SocketAddr) (nodes workers : ℕ) (metrics : Option SocketAddr) → IsPlaceIn 1 rows listen nodes workers
     → ¬ IsAddressOf (first_of (codes "metrics") rows) metrics)
     → (command : LogCommand) → ¬ IsAskedBy (codes "follow", rows) command
-follow_alone rows none (Keep file listen nodes workers metrics quiet) asked = differ _ _ refl asked.0
+follow_alone rows none (Keep file listen nodes workers metrics quiet is_new) asked = differ _ _ refl asked.0
 follow_alone rows none (Follow listen nodes workers metrics) asked = none listen nodes workers metrics asked.1 asked.2
 follow_alone rows none (Join listen nodes workers metrics) asked = differ _ _ refl asked.0
 follow_alone rows none Rules asked = differ _ _ refl asked.0
@@ -46,7 +46,7 @@ pub join_alone : (rows : List Row) → has_flag (codes "rules") rows ≡ false
     → ((listen : SocketAddr) (nodes workers : ℕ) (metrics : Option SocketAddr) → IsPlaceIn 2 rows listen nodes workers
     → ¬ IsAddressOf (first_of (codes "metrics") rows) metrics)
     → (command : LogCommand) → ¬ IsAskedBy (codes "join", rows) command
-join_alone rows serves none (Keep file listen nodes workers metrics quiet) asked = differ _ _ refl asked.0
+join_alone rows serves none (Keep file listen nodes workers metrics quiet is_new) asked = differ _ _ refl asked.0
 join_alone rows serves none (Follow listen nodes workers metrics) asked = differ _ _ refl asked.0
 join_alone rows serves none (Join listen nodes workers metrics) asked = none listen nodes workers metrics asked.2 asked.3
 join_alone rows serves none Rules asked = true≢false (sym asked.1 ∙ serves)
@@ -87,7 +87,7 @@ offset_within (Some text) (Some n) is = is.3
 
 pub within_limits : (o : Option (Text × List Row)) (command : LogCommand) → Asks o command → HasOffsetInLimits command
 within_limits None command asks = absurd asks
-within_limits (Some found) (Keep file listen nodes workers metrics quiet) asks = tt
+within_limits (Some found) (Keep file listen nodes workers metrics quiet is_new) asks = tt
 within_limits (Some found) (Follow listen nodes workers metrics) asks = tt
 within_limits (Some found) (Join listen nodes workers metrics) asks = tt
 within_limits (Some found) Rules asks = tt

@@ -10,9 +10,9 @@ use Rattle.log_arguments.specs.declared.command.LogCommand.TheVariants.{Base, Ch
 
 -- what a command asks for by its name and its matches
 abbrev pub IsAskedBy : Text × List Row → LogCommand → Type 0
-IsAskedBy found (Keep file listen nodes workers metrics quiet) = (found.0 ≡ codes "keep") × (first_of (codes "file") found.1 ≡ Some file.now)
+IsAskedBy found (Keep file listen nodes workers metrics quiet is_new) = (found.0 ≡ codes "keep") × (first_of (codes "file") found.1 ≡ Some file.now)
     × IsPlaceIn 1 found.1 listen nodes workers × IsAddressOf (first_of (codes "metrics") found.1) metrics
-    × (quiet ≡ has_flag (codes "quiet") found.1)
+    × (quiet ≡ has_flag (codes "quiet") found.1) × (is_new ≡ has_flag (codes "new") found.1)
 IsAskedBy found (Follow listen nodes workers metrics) = (found.0 ≡ codes "follow") × IsPlaceIn 1 found.1 listen nodes workers
     × IsAddressOf (first_of (codes "metrics") found.1) metrics
 IsAskedBy found (Join listen nodes workers metrics) = (found.0 ≡ codes "join") × (has_flag (codes "rules") found.1 ≡ false)
@@ -39,7 +39,7 @@ AskFor words command = Asks (subcommand_of program_line words) command
 
 -- an offset or a floor that is asked for is one that a line may have
 abbrev pub HasOffsetInLimits : LogCommand → Type 0
-HasOffsetInLimits (Keep file listen nodes workers metrics quiet) = ⊤
+HasOffsetInLimits (Keep file listen nodes workers metrics quiet is_new) = ⊤
 HasOffsetInLimits (Follow listen nodes workers metrics) = ⊤
 HasOffsetInLimits (Join listen nodes workers metrics) = ⊤
 HasOffsetInLimits Rules = ⊤

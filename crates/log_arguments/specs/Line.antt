@@ -24,11 +24,11 @@ file_line required = record (new_rule (codes "file")) { value_names = 1; require
 abbrev pub command_line : Text → List Rule → App
 command_line name rules = fold with_rule (new_app name) rules
 
--- what says where nodes listen, how many there are, and where metrics are shown
+-- what says that a log is made, where nodes listen, how many there are, and where metrics are shown
 abbrev pub keep_line : App
 keep_line = command_line (codes "keep")
-    (option_line (codes "listen") ∷ option_line (codes "nodes") ∷ option_line (codes "workers") ∷ option_line (codes "metrics")
-    ∷ flag_line (codes "quiet") ∷ file_line true ∷ [])
+    (flag_line (codes "new") ∷ option_line (codes "listen") ∷ option_line (codes "nodes") ∷ option_line (codes "workers")
+    ∷ option_line (codes "metrics") ∷ flag_line (codes "quiet") ∷ file_line true ∷ [])
 
 abbrev pub follow_line : App
 follow_line = command_line (codes "follow")

@@ -20,6 +20,8 @@ pub enum LogCommand<'a> {
         metrics: Option<SocketAddr>,
         /// No line is to say how far the reading of the log is.
         quiet: bool,
+        /// A new log is to be made; else one has to be there.
+        is_new: bool,
     },
     /// The lines of the input are to be served by nodes that only read; the values are as those of `Keep`.
     Follow {

@@ -37,7 +37,7 @@ fn bare_program<'a>(alloc: Global) -> Result<Command<'a>, AllocError>
         named
             .version(VERSION)
             .about("Keeps the log of a registry of Avro schemas in a file, and looks after it")
-            .after_help("Begin with: registrylog keep ~/registry.log")
+            .after_help("Begin with: registrylog keep --new ~/registry.log")
             .subcommand_required(true)
             .arg_required_else_help(true),
     )
@@ -47,12 +47,14 @@ fn bare_program<'a>(alloc: Global) -> Result<Command<'a>, AllocError>
 pub(crate) fn keep<'a>(alloc: Global) -> Result<Command<'a>, AllocError>
     ensures { IfOk result (HasLine keep_line) }
 {
-    let file = file(alloc)
-        .required(true)
-        .help("The log; it is made where it isn't there");
+    let file = file(alloc).required(true).help("The log");
     Command::new(alloc, "keep")
         .about("Serves a registry over HTTP whose log is kept in a file")
-        .after_help("Example: registrylog keep --listen 0.0.0.0:9000 ~/registry.log")
+        .after_help(
+            "A new log is made once: registrylog keep --new ~/registry.log\n\n\
+            Example: registrylog keep --listen 0.0.0.0:9000 ~/registry.log",
+        )
+        .arg(new_log(alloc))?
         .arg(listen(alloc))?
         .arg(nodes(alloc))?
         .arg(workers(alloc))?
@@ -207,6 +209,12 @@ fn quiet<'a>(alloc: Global) -> Arg<'a>
     ensures { HasRule (flag_line (codes "quiet")) result }
 {
     flag(alloc, "quiet").help("Don't say on standard error how far the reading is")
+}
+
+fn new_log<'a>(alloc: Global) -> Arg<'a>
+    ensures { HasRule (flag_line (codes "new")) result }
+{
+    flag(alloc, "new").help("Make the log, which isn't there yet; without this, it has to be there")
 }
 
 /// An option `--NAME` without a value.

@@ -84,6 +84,7 @@ fn keep_in<'a>(found: &ArgMatches<'a>) -> Result<LogCommand<'a>, Fault<'a>>
         return Err(Fault::File);
     };
     let quiet = has_flag(found, "quiet");
+    let is_new = has_flag(found, "new");
     let place = match place_in(found, 1) {
         Ok(place) => place,
         Err(fault) => return Err(fault),
@@ -101,6 +102,7 @@ fn keep_in<'a>(found: &ArgMatches<'a>) -> Result<LogCommand<'a>, Fault<'a>>
             workers,
             metrics,
             quiet,
+            is_new,
         }),
         Err(fault) => Err(fault),
     }

@@ -27,6 +27,10 @@ impl Opens<Memory> for Other {
         self.is_opened = true;
         Ok(Memory::new(self.alloc, b"old".to_vec(self.alloc)?))
     }
+
+    fn put_in_place(&mut self, _disk: &Memory) -> Result<(), DiskError> {
+        Ok(())
+    }
 }
 
 /// What the other file has, a `-` if it wasn't opened.
@@ -59,26 +63,53 @@ fn opened(alloc: Global, file: &str) -> Came {
     Ok(format!(in alloc; "{} & {} & {}", found.as_str(), left.as_str(), put.as_str())?)
 }
 
+/// How a batch is appended.
+#[derive(Clone, Copy)]
+struct How {
+    /// How many lines are to stay free behind it.
+    free: u64,
+    /// Whether the file keeps its name.
+    is_named: bool,
+}
+
+/// No line has to stay free.
+const NAMED: How = How {
+    free: 0,
+    is_named: true,
+};
+
+const UNNAMED: How = How {
+    free: 0,
+    is_named: false,
+};
+
 /// Opens a file in memory and appends a batch: then it says what it said, and the batch.
-fn appended(alloc: Global, bytes: Vec<u8>, batch: &[Record]) -> Result<Journal<Memory>, AppendError>
+fn appended(
+    alloc: Global,
+    bytes: Vec<u8>,
+    batch: &[Record],
+    how: How,
+) -> Result<Journal<Memory>, AppendError>
     requires { All HasLine batch.now }
     ensures { IfOk result (λ journal. said (memory_bytes journal.disk) ≡ with_batch batch.now (said bytes.items)) }
 {
-    let (_log, journal) = match open_journal(alloc, Memory::new(alloc, bytes)) {
+    let mut disk = Memory::new(alloc, bytes);
+    disk.rename(how.is_named);
+    let (_log, journal) = match open_journal(alloc, disk) {
         Ok(found) => found,
         Err(_) => return Err(AppendError::Failed),
     };
     let mut journal = journal;
-    match journal.append(alloc, batch) {
+    match journal.append(alloc, batch, how.free) {
         Ok(()) => Ok(journal),
         Err(error) => Err(error),
     }
 }
 
 /// A file with a batch.
-fn grown(alloc: Global, file: Vec<u8>, batch: &[Record]) -> Came {
+fn grown(alloc: Global, file: Vec<u8>, batch: &[Record], how: How) -> Came {
     if batch.iter().all(|record| has_line(record)) {
-        return match appended(alloc, file, batch) {
+        return match appended(alloc, file, batch, how) {
             Ok(journal) => shown(alloc, journal.disk().bytes()),
             Err(error) => Ok(format!(in alloc; "{error:?}")?),
         };
@@ -86,11 +117,26 @@ fn grown(alloc: Global, file: Vec<u8>, batch: &[Record]) -> Came {
     Err(CaseError::NotUnderstood)
 }
 
-fn grown_by(alloc: Global, asked: &str) -> Came {
+fn grown_by(alloc: Global, asked: &str, how: How) -> Came {
     let (first, rest) = cut(asked);
     let (count, file) = cut(rest);
     let batch = batch_of(alloc, number_in(first)?, number_in(count)?, Some("1"))?;
-    grown(alloc, bytes_of(alloc, file)?, &batch)
+    grown(alloc, bytes_of(alloc, file)?, &batch, how)
+}
+
+/// A batch behind which so many lines are to stay free.
+fn grown_leaving(alloc: Global, asked: &str) -> Came {
+    let (free, rest) = cut(asked);
+    let free = number_in(free)?;
+    grown_by(alloc, rest, How { free, ..NAMED })
+}
+
+fn grown_otherwise(alloc: Global, command: &str, asked: &str) -> Came {
+    match command {
+        "append-unnamed" => grown_by(alloc, asked, UNNAMED),
+        "append-leaving" => grown_leaving(alloc, asked),
+        _ => Err(CaseError::NotUnderstood),
+    }
 }
 
 /// What a file's log is like.
@@ -149,10 +195,10 @@ impl Form for Journals {
         match command {
             "open" => opened(alloc, rest),
             "find" => found(alloc, rest),
-            "append" => grown_by(alloc, rest),
+            "append" => grown_by(alloc, rest, NAMED),
             "shrink" => shrunk(alloc, None, rest),
             "shrink-to" => shrunk(alloc, Some(number_in(floor)?), counted),
-            _ => Err(CaseError::NotUnderstood),
+            _ => grown_otherwise(alloc, command, rest),
         }
     }
 }

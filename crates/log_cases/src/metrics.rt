@@ -4,9 +4,9 @@ use crate::replies::WORDS;
 use exposition::{Family, page_text};
 use reg_meters::{ConnectionTally, Ending, RequestClass, StatusClass, Traffic};
 use reg_metrics::{
-    AdapterMeters, AdapterWord, BatchMeters, FileMeters, LineMeters, Stage, WordFinder,
-    adapter_families, answer_to, asked_in, batch_families, file_families, line_families,
-    numbers_in, process_families, stage_families, started_in, traffic_families,
+    AdapterMeters, AdapterWord, BatchMeters, Condition, FileMeters, LineMeters, PageRequest, Stage,
+    WordFinder, adapter_families, answer_to, asked_in, batch_families, file_families,
+    line_families, numbers_in, process_families, stage_families, started_in, traffic_families,
 };
 use std::alloc::{AllocError, Global};
 use test_tools::{bytes_of, cut};
@@ -174,6 +174,22 @@ fn response_to(alloc: Global, head: &[u8]) -> Came {
     Ok(format!(in alloc; "{asked:?} {}", response.as_str())?)
 }
 
+/// How far a process is of which these words are true, and what `/ready` says then.
+fn stage_of(alloc: Global, words: &str) -> Came {
+    let known = Condition {
+        listens: words.contains("listens"),
+        is_lost: words.contains("lost"),
+        is_declined: words.contains("declined"),
+        is_full: words.contains("full"),
+        is_unlawful: words.contains("unlawful"),
+        has_ended: words.contains("ended"),
+        is_away: words.contains("away"),
+    };
+    let stage = known.stage();
+    let response = shown(alloc, &answer_to(alloc, PageRequest::Ready, stage, b"")?)?;
+    Ok(format!(in alloc; "{} {}", stage.word(), response.as_str())?)
+}
+
 /// A page, and what is asked about its numbers.
 #[derive(Drop)]
 pub(crate) struct Metrics {
@@ -201,6 +217,7 @@ impl Form for Metrics {
             "started" => Ok(start_in(alloc, text.as_str())?),
             "words" => shown(alloc, words_in(alloc, rest)?.as_bytes()),
             "request" => response_to(alloc, &bytes),
+            "stage" => stage_of(alloc, rest),
             _ => Err(CaseError::NotUnderstood),
         }
     }

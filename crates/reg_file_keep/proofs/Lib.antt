@@ -1,3 +1,4 @@
+mod Logs
 mod Opened
 mod Rooms
 mod Starts

@@ -1,5 +1,5 @@
 -- What opening a pen leaves in the file.
-use Rattle.std.proofs.Common.{◌≡◌, ℕ, false, List, [], ◌∷◌, Result, Ok, Err, refl, sym, ap, subst, subst₂, append-nil}
+use Rattle.std.proofs.Common.{◌≡◌, ℕ, Bool, false, List, [], ◌∷◌, Result, Ok, Err, refl, sym, ap, subst, subst₂, append-nil}
 use Rattle.reg_journal.specs.Disk.{Only}
 use Rattle.reg_journal.specs.Lines.{Said, said, with_batch}
 use Rattle.reg_journal.specs.declared.disk.DiskError.{DiskError}
@@ -20,10 +20,10 @@ no_more (Err fault) = refl
 
 module _ {D : Type 0} (across : SaidCompactionsCompose) (follow : BatchesFollowCompactions) (is_modelled : Type 0)
     (moment : D → ℕ) (left_since : D → ℕ → List ℕ → Type 0) (may_leave : D → List ℕ → Type 0) (seen : D → List ℕ)
-    (faults : D → DiskError → D → Type 0) (renewals : D → RenewError → D → Type 0) (modelled : is_modelled) where
+    (faults : D → DiskError → D → Type 0) (renewals : D → RenewError → D → Type 0) (named : D → Bool → Type 0) (modelled : is_modelled) where
   here : (whole : Said) (old new : KeepState D) (due : List Record)
       → Here seen may_leave (Ok whole) [] old
-      → KeepsDue (KeepsFile is_modelled moment left_since may_leave seen faults renewals) old due new
+      → KeepsDue (KeepsFile is_modelled moment left_since may_leave seen faults renewals named) old due new
       → Here seen may_leave (with_batch due (Ok whole)) [] new
   here whole old new [] was same =
       let says : SaysCompaction (with_batch [] (with_batch [] (Ok whole))) (said (seen old.journal.disk)) =
@@ -44,7 +44,7 @@ module _ {D : Type 0} (across : SaidCompactionsCompose) (follow : BatchesFollowC
   pub opened : (whole : Said) (old new : KeepState D) (due : List Record) → old.journal.is_broken ≡ false
       → SaysCompaction (Ok whole) (said (seen old.journal.disk))
       → Only (seen old.journal.disk) (may_leave old.journal.disk)
-      → KeepsDue (KeepsFile is_modelled moment left_since may_leave seen faults renewals) old due new
+      → KeepsDue (KeepsFile is_modelled moment left_since may_leave seen faults renewals named) old due new
       → SaysPublished seen may_leave (with_batch due (Ok whole))
       (record { published = []; pending = []; lost = false; keep = new })
   opened whole old new due sound says durable keeps =

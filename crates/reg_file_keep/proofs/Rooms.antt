@@ -23,10 +23,11 @@ use Rattle.reg_records.specs.declared.limits.TheConstants.{LOG_LINES}
 use Rattle.reg_records.specs.Log.{LogText, log_of}
 use Rattle.reg_records.specs.declared.log.LogFault.{LogFault}
 use Rattle.reg_records.specs.declared.record.Record.{Record}
+use Rattle.reg_pen.specs.declared.keep.Kept.TheVariants.{Taken}
 use Rattle.reg_file_keep.specs.KeepState.{KeepState}
-use Rattle.reg_file_keep.specs.Keeping.{Ends, HasFloorUpTo, HasReason, SaysCompactionOrMore, kept_of, next_after, says_compaction}
+use Rattle.reg_file_keep.specs.Keeping.{Ends, HasFloorUpTo, HasReason, SaysCompactionOrMore, free_behind, kept_of, next_after, says_compaction}
 
-abbrev of_log : Result LogText (ℕ × LogFault) → Result Said (ℕ × LogFault)
+abbrev pub of_log : Result LogText (ℕ × LogFault) → Result Said (ℕ × LogFault)
 of_log found = result_map_both (λ (log : LogText). record { floor = log.floor; reads = log.reads }) (λ fault. fault) found
 
 module _ {D : Type 0} (seen : D → List ℕ) (may_leave : D → List ℕ → Type 0) (ended : EndedLinesAreRead)
@@ -207,24 +208,36 @@ module _ {D : Type 0} (moment : D → ℕ) (left_since : D → ℕ → List ℕ 
   ends_refused is_modelled errors.OutOfMemory room same loses broken =
       declined is_modelled errors.OutOfMemory room (same refl) broken (λ is. cc)
   ends_refused is_modelled errors.Changed room same loses broken = loses refl
+  ends_refused is_modelled errors.Unnamed room same loses broken = loses refl
   ends_refused is_modelled errors.Failed room same loses broken = loses refl
   ends_refused is_modelled errors.Broken room same loses broken = loses refl
 
+-- a batch that wasn't appended isn't taken
+pub not_taken : (error : AppendError) → kept_of error ≡ Taken → ⊥
+not_taken errors.LineTooLong is = cc
+not_taken errors.TooManyLines is = cc
+not_taken errors.OutOfMemory is = cc
+not_taken errors.Changed is = cc
+not_taken errors.Unnamed is = cc
+not_taken errors.Failed is = cc
+not_taken errors.Broken is = cc
+
 -- why a batch wasn't appended
 module _ {D : Type 0} (is_modelled : Type 0) (faults : D → DiskError → D → Type 0) (renewals : D → RenewError → D → Type 0)
-    (old mid new : KeepState D) (batch : List Record) where
+    (named : D → Bool → Type 0) (old mid new : KeepState D) (batch : List Record) where
   pub reason_of : (error : AppendError)
-      → HasCause is_modelled faults mid.journal batch error new.journal
+      → HasCause is_modelled faults named mid.journal batch (free_behind batch) error new.journal
       → (is_refusal error ≡ true → new.journal ≡ mid.journal)
       → (mid.journal.is_broken ≡ true → new.journal ≡ mid.journal)
       → (is_modelled → mid.journal.is_broken ≡ true → GaveFault renewals mid.journal.disk)
-      → HasReason is_modelled faults renewals old batch (kept_of error) new
+      → HasReason is_modelled faults renewals named old batch (kept_of error) new
   reason_of errors.LineTooLong cause same alone lost = inr (inl cause)
   reason_of errors.TooManyLines cause same alone lost =
       let lines : new.journal.lines ≡ mid.journal.lines = ap (λ (j : JournalState D). j.lines) (same refl) in
-      inr (inr (subst (λ (n : ℕ). LOG_LINES - n < length batch) (sym lines) cause))
+      inr (inr (subst (λ (n : ℕ). LOG_LINES - free_behind batch - n < length batch) (sym lines) cause))
   reason_of errors.OutOfMemory cause same alone lost = tt
-  reason_of errors.Changed cause same alone lost = λ modelled. inr (inr (inr (mid.journal.end, cause modelled)))
+  reason_of errors.Changed cause same alone lost = λ modelled. inr (inr (inr (inr (mid.journal.end, cause modelled))))
+  reason_of errors.Unnamed cause same alone lost = λ modelled. inr (inr (inr (inl (cause modelled))))
   reason_of errors.Failed cause same alone lost = λ modelled. inr (inl cause)
   reason_of errors.Broken cause same alone lost =
       λ modelled. inr (inr (inl (
@@ -236,6 +249,7 @@ module _ {D : Type 0} (is_modelled : Type 0) (faults : D → DiskError → D →
   counts_same errors.TooManyLines next = refl
   counts_same errors.OutOfMemory next = refl
   counts_same errors.Changed next = refl
+  counts_same errors.Unnamed next = refl
   counts_same errors.Failed next = refl
   counts_same errors.Broken next = refl
 

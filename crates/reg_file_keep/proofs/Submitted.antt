@@ -62,7 +62,7 @@ module _ {D : Type 0} (seen : D → List ℕ) (may_leave : D → List ℕ → Ty
 
 module _ {D : Type 0} (across : SaidCompactionsCompose) (follow : BatchesFollowCompactions) (is_modelled : Type 0)
     (moment : D → ℕ) (left_since : D → ℕ → List ℕ → Type 0) (may_leave : D → List ℕ → Type 0) (seen : D → List ℕ)
-    (faults : D → DiskError → D → Type 0) (renewals : D → RenewError → D → Type 0)
+    (faults : D → DiskError → D → Type 0) (renewals : D → RenewError → D → Type 0) (named : D → Bool → Type 0)
     (modelled : is_modelled) (first : Result Said (ℕ × LogFault)) where
   -- a batch that is taken
   taken : (keep old : KeepState D) (published is : List Item) (batch : List Record) → batched is ≡ batch
@@ -83,7 +83,7 @@ module _ {D : Type 0} (across : SaidCompactionsCompose) (follow : BatchesFollowC
       (batch : List Record) (replied unsettled reply : Reply) (m : PenState (KeepState D))
       → batched is ≡ batch
       → Here seen may_leave first published old
-      → KeepsFile is_modelled moment left_since may_leave seen faults renewals old batch kept keep
+      → KeepsFile is_modelled moment left_since may_leave seen faults renewals named old batch kept keep
       → Follows kept is replied unsettled (record { published = published; pending = []; lost = false; keep = keep }) reply m
       → SaysPublished seen may_leave first m
   lent Taken keep published old is batch replied unsettled reply m same here keeps follows =
@@ -127,7 +127,7 @@ module _ {D : Type 0} (across : SaidCompactionsCompose) (follow : BatchesFollowC
       (m : PenState (KeepState D))
       → lost ≡ false
       → Here seen may_leave first published old
-      → Acts (KeepsFile is_modelled moment left_since may_leave seen faults renewals) base
+      → Acts (KeepsFile is_modelled moment left_since may_leave seen faults renewals named) base
       (record { published = published; pending = []; lost = lost; keep = old }) c reply m
       → SaysPublished seen may_leave first m
   acted base published old true c reply m kept here acts = absurd (true≢false kept)
@@ -147,7 +147,7 @@ module _ {D : Type 0} (across : SaidCompactionsCompose) (follow : BatchesFollowC
       acts
 
   pub submitted : (base : Topic) (since : Option (Bor (List Item))) (l m : PenState (KeepState D)) (c : Command) (reply : Reply)
-      → Submits (KeepsFile is_modelled moment left_since may_leave seen faults renewals) base since l c reply m
+      → Submits (KeepsFile is_modelled moment left_since may_leave seen faults renewals named) base since l c reply m
       → SaysPublished seen may_leave first l → SaysPublished seen may_leave first m
   submitted base since l m c reply submits says =
       ⊎_elim

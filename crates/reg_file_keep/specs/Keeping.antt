@@ -1,5 +1,5 @@
 -- What a keep over a file does with a batch.
-use Rattle.std.specs.Prelude.{◌≡◌, ⊤, ◌⊎◌, ◌<◌, ◌≤◌, ◌-◌, max, min, ℕ, List, length, Result, true, false, None, Some, All, IfOk}
+use Rattle.std.specs.Prelude.{◌≡◌, ⊤, ◌⊎◌, ◌<◌, ◌≤◌, ◌-◌, max, min, ℕ, Bool, List, [], ◌∷◌, length, Result, true, false, None, Some, All, IfOk, if◌then◌else◌}
 use Rattle.reg_journal.specs.Disk.{GaveFault, LeavesOnly, Only}
 use Rattle.reg_journal.specs.JournalState.{JournalState}
 use Rattle.reg_journal.specs.Lines.{IsBeforeOrAfter, Said, said, with_batch}
@@ -16,6 +16,8 @@ use Rattle.reg_pen.specs.declared.keep.Kept.{Kept}
 use Rattle.reg_pen.specs.declared.keep.Kept.TheVariants.{Taken, Declined, Lost, Unknown}
 use Rattle.reg_pen.specs.declared.keep.Lack.TheVariants as lacks
 use Rattle.reg_records.specs.Written.{HasLine}
+use Rattle.reg_records.specs.declared.key.Key.{Key}
+use Rattle.reg_records.specs.declared.key.Key.TheVariants as keys
 use Rattle.reg_records.specs.declared.limits.TheConstants.{LOG_LINES, OFFSET_LIMIT}
 use Rattle.reg_records.specs.declared.log.LogFault.{LogFault}
 use Rattle.reg_records.specs.declared.record.Record.{Record}
@@ -28,8 +30,22 @@ kept_of errors.LineTooLong = Declined lacks.Numbers
 kept_of errors.TooManyLines = Declined lacks.Numbers
 kept_of errors.OutOfMemory = Declined lacks.Memory
 kept_of errors.Changed = Lost
+kept_of errors.Unnamed = Lost
 kept_of errors.Failed = Lost
 kept_of errors.Broken = Lost
+
+abbrev is_mark_key : Key → Bool
+is_mark_key keys.IdMark = true
+is_mark_key _ = false
+
+-- the batch is a mark of ids and nothing else, as a start may owe it
+abbrev pub is_mark : List Record → Bool
+is_mark (r ∷ []) = is_mark_key r.key
+is_mark _ = false
+
+-- how many lines stay free behind a batch: one, for the mark of ids that the next start may owe, but none behind that mark
+abbrev pub free_behind : List Record → ℕ
+free_behind batch = if is_mark batch then 0 else 1
 
 -- the file says a compaction of what was said before
 abbrev pub says_compaction : Result Said (ℕ × LogFault) → List ℕ → Type 0
@@ -101,23 +117,24 @@ Ends is_modelled seen old batch (Declined lack) new = (new.is_broken ≡ false)
 Ends is_modelled seen old batch Lost new = new.is_broken ≡ true
 Ends is_modelled seen old batch Unknown new = ⊥
 
--- a batch can't be kept: not each record has a line and is from the floor on, a line is too long, or there are too many lines
+-- a batch can't be kept: not each record has a line and is from the floor on, a line is too long, or too few lines would stay free
 abbrev pub CannotStand : {D : Type 0} → KeepState D → List Record → KeepState D → Type 0
 CannotStand old batch new = (All HasLine batch × All (λ r. old.floor ≤ r.offset) batch → ⊥)
-    ⊎ HasLongLine batch ⊎ (LOG_LINES - new.journal.lines < length batch)
+    ⊎ HasLongLine batch ⊎ (LOG_LINES - free_behind batch - new.journal.lines < length batch)
 
--- why a batch isn't taken; one is lost only where one was before, or where the disk gave a fault; nobody else writes, and the file is all
--- that there is
-abbrev pub HasReason : {D : Type 0} → Type 0 → (D → DiskError → D → Type 0) → (D → RenewError → D → Type 0)
+-- why a batch isn't taken; one is lost only where one was before, where the disk gave a fault, or where it said that the path doesn't name
+-- the file any more; nobody else writes, and the file is all that there is
+abbrev pub HasReason : {D : Type 0} → Type 0 → (D → DiskError → D → Type 0) → (D → RenewError → D → Type 0) → (D → Bool → Type 0)
     → KeepState D → List Record → Kept → KeepState D → Type 0
-HasReason is_modelled faults renewals old batch Taken new = ⊤
-HasReason is_modelled faults renewals old batch (Declined lacks.Memory) new = ⊤
-HasReason is_modelled faults renewals old batch (Declined lacks.Numbers) new = CannotStand old batch new
-HasReason is_modelled faults renewals old batch (Declined lacks.Overtaken) new = ⊥
-HasReason is_modelled faults renewals old batch (Declined lacks.Store) new = ⊥
-HasReason is_modelled faults renewals old batch Lost new = is_modelled → (old.journal.is_broken ≡ true)
-    ⊎ GaveFault faults new.journal.disk ⊎ GaveFault renewals new.journal.disk ⊎ ((end : ℕ) × IsTooLarge end batch)
-HasReason is_modelled faults renewals old batch Unknown new = ⊥
+HasReason is_modelled faults renewals named old batch Taken new = ⊤
+HasReason is_modelled faults renewals named old batch (Declined lacks.Memory) new = ⊤
+HasReason is_modelled faults renewals named old batch (Declined lacks.Numbers) new = CannotStand old batch new
+HasReason is_modelled faults renewals named old batch (Declined lacks.Overtaken) new = ⊥
+HasReason is_modelled faults renewals named old batch (Declined lacks.Store) new = ⊥
+HasReason is_modelled faults renewals named old batch Lost new = is_modelled → (old.journal.is_broken ≡ true)
+    ⊎ GaveFault faults new.journal.disk ⊎ GaveFault renewals new.journal.disk ⊎ named new.journal.disk false
+    ⊎ ((end : ℕ) × IsTooLarge end batch)
+HasReason is_modelled faults renewals named old batch Unknown new = ⊥
 
 -- the next offset behind a batch that is taken
 abbrev pub next_after : ℕ → List Record → Kept → ℕ
@@ -126,19 +143,22 @@ next_after next batch (Declined lack) = next
 next_after next batch Lost = next
 next_after next batch Unknown = next
 
--- a batch that is taken stands in the file, whole, behind what was said or a compaction of it; of one that is declined
+-- a batch that is taken stands in the file, whole, behind what was said or a compaction of it, and the path named that file once all of it
+-- was on the disk; of one that is declined
 -- nothing does; one that is lost breaks the journal for good; from the answer on each crash leaves the file as it is; a
 -- crash at any moment leaves a file without the batch or with all of it
 pub record KeepsFile {D : Type 0} (is_modelled : Type 0) (moment : D → ℕ) (left_since : D → ℕ → List ℕ → Type 0)
     (may_leave : D → List ℕ → Type 0) (seen : D → List ℕ) (faults : D → DiskError → D → Type 0)
-    (renewals : D → RenewError → D → Type 0) (old : KeepState D) (batch : List Record) (kept : Kept) (new : KeepState D) : Type 0 where
+    (renewals : D → RenewError → D → Type 0) (named : D → Bool → Type 0) (old : KeepState D) (batch : List Record) (kept : Kept)
+    (new : KeepState D) : Type 0 where
   pub ends : Ends is_modelled seen old.journal batch kept new.journal
   pub durable : is_modelled → new.journal.is_broken ≡ false → Only (seen new.journal.disk) (may_leave new.journal.disk)
   pub any_moment : is_modelled → old.journal.is_broken ≡ false
       → LeavesOnly moment left_since may_leave old.journal.disk new.journal.disk
       (SaysCompactionOrMore (said (seen old.journal.disk)) batch)
   pub broken : old.journal.is_broken ≡ true → (kept ≡ Lost) × (new ≡ old)
-  pub reason : HasReason is_modelled faults renewals old batch kept new
+  pub has_name : is_modelled → kept ≡ Taken → named new.journal.disk true
+  pub reason : HasReason is_modelled faults renewals named old batch kept new
   -- what was appended counts for the floor of the next compaction, a delete from the floor on stays, and what is known of the
   -- file is what making room made of it: the floor rises with a compaction alone, and one that failed isn't tried again at once
   pub counts : new.next ≡ next_after old.next batch kept

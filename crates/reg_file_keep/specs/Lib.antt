@@ -1,5 +1,6 @@
 pub mod KeepState
 pub mod Keeping
+pub mod LogKeep
 pub mod Next
 pub mod Published
 pub mod Room

@@ -3,7 +3,7 @@ ghost use Rattle.std.specs.Prelude.{◌≡◌, ◌↔◌, ◌≤◌, All, IsTrue
 ghost use Rattle.reg_records.specs.Written.{HasLine};
 ghost use Rattle.reg_journal.specs.Disk.{LeavesOnly};
 ghost use Rattle.reg_journal.specs.Lines.{said};
-ghost use Rattle.reg_file_keep.specs.Keeping.{HasFloorUpTo, KeepsFile, MakesRoom, kept_of, says_compaction};
+ghost use Rattle.reg_file_keep.specs.Keeping.{HasFloorUpTo, KeepsFile, MakesRoom, free_behind, is_mark, kept_of, says_compaction};
 ghost use Rattle.reg_file_keep.specs.Starting.{StandsAt};
 
 use crate::room::Room;
@@ -11,7 +11,7 @@ use crate::upkeep::{Upkeep, make_room};
 use reg_compaction::{JournalCompactError, compactions_stand_for_logs};
 use reg_journal::{AppendError, Journal, Renewable, lines_are_logs};
 use reg_pen::{Keep, Kept, Lack};
-use reg_records::{Record, has_line};
+use reg_records::{Key, Record, has_line};
 use std::alloc::Global;
 use std::marker::Model;
 
@@ -98,7 +98,7 @@ impl<D: Renewable + Drop> FileKeep<D> {
 }
 
 impl<D: Renewable + Drop> Keep for FileKeep<D> {
-    ghost keeps = { KeepsFile D.is_modelled D.moment D.left_since D.may_leave D.seen D.faults D.renewals };
+    ghost keeps = { KeepsFile D.is_modelled D.moment D.left_since D.may_leave D.seen D.faults D.renewals D.named };
 
     ghost stands = { StandsAt D.is_modelled D.may_leave D.seen };
 
@@ -112,13 +112,10 @@ impl<D: Renewable + Drop> Keep for FileKeep<D> {
         if !can_stand(batch, self.upkeep.floor) {
             return Kept::Declined(Lack::Numbers);
         }
-        make_room(
-            self.alloc,
-            &mut self.journal,
-            &mut self.upkeep,
-            batch.len() as u64,
-        );
-        match self.journal.append(self.alloc, batch) {
+        let free = free_behind(batch);
+        let lines = (batch.len() as u64).saturating_add(free);
+        make_room(self.alloc, &mut self.journal, &mut self.upkeep, lines);
+        match self.journal.append(self.alloc, batch, free) {
             Ok(()) => {
                 self.upkeep.append(batch);
                 self.journal.is_steady();
@@ -129,6 +126,23 @@ impl<D: Renewable + Drop> Keep for FileKeep<D> {
                 kept_of(error)
             }
         }
+    }
+}
+
+/// How many lines are to stay free behind a batch: one, for the mark of ids that the next start may owe, but none behind that mark.
+fn free_behind(batch: &[Record]) -> u64
+    ensures { result ≡ free_behind batch.now }
+{
+    if is_mark(batch) { 0 } else { 1 }
+}
+
+/// Whether the batch is a mark of ids and nothing else, as a start may owe it. No command's batch is.
+pub(crate) fn is_mark(batch: &[Record]) -> bool
+    ensures { result ≡ is_mark batch.now }
+{
+    match batch {
+        [record] => matches!(record.key, Key::IdMark),
+        _ => false,
     }
 }
 
@@ -160,6 +174,7 @@ fn kept_of(error: AppendError) -> Kept
     match error {
         AppendError::OutOfMemory => Kept::Declined(Lack::Memory),
         AppendError::LineTooLong | AppendError::TooManyLines => Kept::Declined(Lack::Numbers),
-        AppendError::Changed | AppendError::Failed | AppendError::Broken => Kept::Lost,
+        AppendError::Changed | AppendError::Unnamed | AppendError::Failed | AppendError::Broken =>
+            Kept::Lost,
     }
 }

@@ -11,14 +11,17 @@ ghost use Rattle.reg_pen.specs.Pen.{PenState, Submits};
 ghost use Rattle.reg_records.specs.Log.{IsLogOf, records_in};
 ghost use Rattle.reg_records.specs.declared.log.Log.{Log};
 ghost use Rattle.reg_records.specs.declared.log.LogFault.{LogFault};
+ghost use Rattle.reg_records.specs.declared.record.Record.{Record};
 ghost use Rattle.reg_topic.specs.Topic.{owed_by};
 ghost use Rattle.reg_topic.specs.declared.published.Item.{Item};
 ghost use Rattle.reg_topic.specs.declared.topic.Topic.{Topic};
 ghost use Rattle.reg_file_keep.specs.KeepState.{KeepState};
 ghost use Rattle.reg_file_keep.specs.Keeping.{KeepsFile};
+ghost use Rattle.reg_file_keep.specs.LogKeep.{KeepsLog, as_file};
 ghost use Rattle.reg_file_keep.specs.Published.{SaysPublished};
 ghost use Rattle.reg_file_keep.specs.Starting.{StandsAt};
 
+use crate::log_keep::LogKeep;
 use reg_compaction::compactions_stand_for_logs;
 use reg_journal::{Renewable, batches_add_records};
 
@@ -30,11 +33,11 @@ pub fn opens_keep_the_file<D: Renewable>()
         → old.journal.is_broken ≡ false
         → SaysCompaction (Ok whole) (said (D.seen old.journal.disk))
         → Only (D.seen old.journal.disk) (D.may_leave old.journal.disk)
-        → KeepsDue (KeepsFile D.is_modelled D.moment D.left_since D.may_leave D.seen D.faults D.renewals) old (owed_by base.records.items base.next) new
+        → KeepsDue (KeepsFile D.is_modelled D.moment D.left_since D.may_leave D.seen D.faults D.renewals D.named) old (owed_by base.records.items base.next) new
         → SaysPublished D.seen D.may_leave (with_batch (owed_by base.records.items base.next) (Ok whole))
         (record { published = []; pending = []; lost = false; keep = new }) }
     ensures start { D.is_modelled → (base : Log) (old new : KeepState D) → StandsAt D.is_modelled D.may_leave D.seen old base
-        → KeepsDue (KeepsFile D.is_modelled D.moment D.left_since D.may_leave D.seen D.faults D.renewals) old (owed_by base.records.items base.next) new
+        → KeepsDue (KeepsFile D.is_modelled D.moment D.left_since D.may_leave D.seen D.faults D.renewals D.named) old (owed_by base.records.items base.next) new
         → (whole : Said) × IsLogOf whole.floor whole.reads base
         × SaysPublished D.seen D.may_leave (with_batch (owed_by base.records.items base.next) (Ok whole))
         (record { published = []; pending = []; lost = false; keep = new }) }
@@ -52,8 +55,29 @@ pub fn opens_keep_the_file<D: Renewable>()
 pub fn submits_keep_the_file<D: Renewable>()
     ensures { D.is_modelled → (first : Result Said (ℕ × LogFault)) (base : Topic) (since : Option (Bor (List Item)))
         (old new : PenState (KeepState D)) (command : Command) (reply : Reply)
-        → Submits (KeepsFile D.is_modelled D.moment D.left_since D.may_leave D.seen D.faults D.renewals) base since old command reply new
+        → Submits (KeepsFile D.is_modelled D.moment D.left_since D.may_leave D.seen D.faults D.renewals D.named) base since old command reply new
         → SaysPublished D.seen D.may_leave first old → SaysPublished D.seen D.may_leave first new }
 {
     compactions_stand_for_logs();
 }
+
+/// Over a log whose keep is open, opening a pen and each submit do what they do over the keep of its file, and the keep stays open.
+pub fn open_logs_keep_as_files<D: Renewable>()
+    ensures opens { (old : KeepState D) (due : List Record) (new : LogKeep D)
+        → KeepsDue (KeepsLog (KeepsFile D.is_modelled D.moment D.left_since D.may_leave D.seen D.faults D.renewals D.named)) (LogKeep.Open old) due new
+        → (keep : KeepState D) × (new ≡ LogKeep.Open keep)
+        × KeepsDue (KeepsFile D.is_modelled D.moment D.left_since D.may_leave D.seen D.faults D.renewals D.named) old due keep }
+    ensures submits { (base : Topic) (since : Option (Bor (List Item))) (old new : PenState (LogKeep D)) (command : Command) (reply : Reply)
+        (before : KeepState D) → old.keep ≡ LogKeep.Open before
+        → Submits (KeepsLog (KeepsFile D.is_modelled D.moment D.left_since D.may_leave D.seen D.faults D.renewals D.named)) base since old command reply new
+        → (after : KeepState D) × (new.keep ≡ LogKeep.Open after)
+        × Submits (KeepsFile D.is_modelled D.moment D.left_since D.may_leave D.seen D.faults D.renewals D.named) base since (as_file old before) command reply (as_file new after) }
+{}
+
+/// A log whose keep is closed stays so, and its pen publishes nothing but what was pending: a command that writes is refused.
+pub fn closed_logs_take_no_command<D: Renewable>()
+    ensures { (base : Topic) (since : Option (Bor (List Item))) (old new : PenState (LogKeep D)) (command : Command) (reply : Reply)
+        → old.keep ≡ LogKeep.Closed
+        → Submits (KeepsLog (KeepsFile D.is_modelled D.moment D.left_since D.may_leave D.seen D.faults D.renewals D.named)) base since old command reply new
+        → new.keep ≡ LogKeep.Closed }
+{}

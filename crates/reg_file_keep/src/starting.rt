@@ -5,9 +5,11 @@ ghost use Rattle.reg_journal.specs.Disk.{LeavesOnly, Only};
 ghost use Rattle.reg_journal.specs.Lines.{Said, said};
 ghost use Rattle.reg_compaction.specs.Aside.{HasAll};
 ghost use Rattle.reg_compaction.specs.Said.{SaysCompaction};
+ghost use Rattle.reg_file_keep.specs.LogKeep.{IsOpen};
 ghost use Rattle.reg_file_keep.specs.Starting.{LosesNothing};
 
 use crate::keeping::FileKeep;
+use crate::log_keep::LogKeep;
 use crate::room::Room;
 use reg_compaction::{Aside, Opens, compactions_stand_for_logs, open_aside};
 use reg_journal::{Disk, Found, Journal, JournalOpenError, Renewable};
@@ -20,9 +22,9 @@ const FIRST_LINES: u64 = 1_000;
 /// What a start over a file gives.
 #[derive(Drop)]
 pub struct Started<D: Renewable + Drop> {
-    /// The log of the file, and the keep that stands at its end. Only `start_file_keep` makes such a keep, so that they belong
+    /// The log of the file, and the open keep that stands at its end. Only `start_file_keep` makes such a keep, so that they belong
     /// together.
-    pub kept: KeptLog<FileKeep<D>>,
+    pub kept: KeptLog<LogKeep<D>>,
     /// Where the file's empty line stood when it was read.
     pub end: usize,
     /// How many bytes stood behind the log, which are on the other disk.
@@ -49,15 +51,15 @@ pub fn start_file_keep<D: Renewable + Drop, A: Disk + Drop, O: Opens<A>>(
     ensures log { D.is_modelled → IfOk result (λ it. (says : Said) × (said (D.seen disk) ≡ Ok says) × IsLogOf says.floor says.reads it.kept.log) }
 
     // The keep stands at its end and isn't broken: its file says a compaction of it, all of it on the disk.
-    ensures kept { D.is_modelled → IfOk result (λ it. SaysCompaction (said (D.seen disk)) (said (D.seen it.kept.keep.journal.disk))) }
-    ensures durable { D.is_modelled → IfOk result (λ it. Only (D.seen it.kept.keep.journal.disk) (D.may_leave it.kept.keep.journal.disk)) }
-    ensures sound { IfOk result (λ it. it.kept.keep.journal.is_broken ≡ false) }
-    ensures next { IfOk result (λ it. it.kept.keep.next ≡ it.kept.log.next) }
+    ensures kept { D.is_modelled → IfOk result (λ it. IsOpen it.kept.keep (λ keep. SaysCompaction (said (D.seen disk)) (said (D.seen keep.journal.disk)))) }
+    ensures durable { D.is_modelled → IfOk result (λ it. IsOpen it.kept.keep (λ keep. Only (D.seen keep.journal.disk) (D.may_leave keep.journal.disk))) }
+    ensures sound { IfOk result (λ it. IsOpen it.kept.keep (λ keep. keep.journal.is_broken ≡ false)) }
+    ensures next { IfOk result (λ it. IsOpen it.kept.keep (λ keep. keep.next ≡ it.kept.log.next)) }
 
     // A crash at any moment leaves what it might have left before, a file with all bytes that were there, or one that says a
     // compaction of what it said.
-    ensures any_moment { D.is_modelled → IfOk result (λ it. LeavesOnly D.moment D.left_since D.may_leave disk it.kept.keep.journal.disk
-        (λ c. HasAll (D.may_leave disk) (D.seen disk) c ⊎ SaysCompaction (said (D.seen disk)) (said c))) }
+    ensures any_moment { D.is_modelled → IfOk result (λ it. IsOpen it.kept.keep (λ keep. LeavesOnly D.moment D.left_since D.may_leave disk keep.journal.disk
+        (λ c. HasAll (D.may_leave disk) (D.seen disk) c ⊎ SaysCompaction (said (D.seen disk)) (said c)))) }
 
     // Where nothing is started, nothing was lost either.
     ensures left { D.is_modelled → IfErr result (λ it. LeavesOnly D.moment D.left_since D.may_leave disk it.disk
@@ -86,7 +88,7 @@ pub fn start_file_keep<D: Renewable + Drop, A: Disk + Drop, O: Opens<A>>(
         });
     }
     keep.journal().is_steady();
-    let kept = KeptLog::new(log, keep);
+    let kept = KeptLog::new(log, LogKeep::Open(keep));
     Ok(Started {
         kept,
         end,

@@ -26,6 +26,8 @@ abbrev pub ready_text : Stage → List ℕ
 ready_text stages.Ready = told_text (codes "200 OK") (codes "ready\n")
 ready_text stages.Starting = told_text (codes "503 Service Unavailable") (codes "starting\n")
 ready_text stages.Lost = told_text (codes "503 Service Unavailable") (codes "lost\n")
+ready_text stages.Declined = told_text (codes "503 Service Unavailable") (codes "declined\n")
+ready_text stages.Full = told_text (codes "503 Service Unavailable") (codes "full\n")
 ready_text stages.Unlawful = told_text (codes "503 Service Unavailable") (codes "unlawful\n")
 ready_text stages.Unreachable = told_text (codes "503 Service Unavailable") (codes "unreachable\n")
 ready_text stages.Ended = told_text (codes "503 Service Unavailable") (codes "ended\n")

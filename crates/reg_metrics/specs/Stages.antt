@@ -6,6 +6,8 @@ use Rattle.reg_metrics.specs.declared.stage.Condition.{Condition}
 pub record IsClear (s : Condition) : Type 0 where
   pub listens : s.listens ≡ true
   pub found : s.is_lost ≡ false
+  pub taken : s.is_declined ≡ false
+  pub room : s.is_full ≡ false
   pub lawful : s.is_unlawful ≡ false
   pub goes_on : s.has_ended ≡ false
   pub reached : s.is_away ≡ false

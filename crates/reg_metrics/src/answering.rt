@@ -46,6 +46,8 @@ fn ready(alloc: Global, stage: Stage) -> Result<Vec<u8>, AllocError>
         Stage::Ready => told(alloc, "200 OK", "ready\n"),
         Stage::Starting => told(alloc, "503 Service Unavailable", "starting\n"),
         Stage::Lost => told(alloc, "503 Service Unavailable", "lost\n"),
+        Stage::Declined => told(alloc, "503 Service Unavailable", "declined\n"),
+        Stage::Full => told(alloc, "503 Service Unavailable", "full\n"),
         Stage::Unlawful => told(alloc, "503 Service Unavailable", "unlawful\n"),
         Stage::Unreachable => told(alloc, "503 Service Unavailable", "unreachable\n"),
         Stage::Ended => told(alloc, "503 Service Unavailable", "ended\n"),

@@ -25,6 +25,8 @@ pub fn stage_families(
         (Stage::Starting.word(), u64::from(stage == Stage::Starting)),
         (Stage::Ready.word(), u64::from(stage == Stage::Ready)),
         (Stage::Lost.word(), u64::from(stage == Stage::Lost)),
+        (Stage::Declined.word(), u64::from(stage == Stage::Declined)),
+        (Stage::Full.word(), u64::from(stage == Stage::Full)),
         (Stage::Unlawful.word(), u64::from(stage == Stage::Unlawful)),
         (
             Stage::Unreachable.word(),

@@ -53,6 +53,17 @@ pub(crate) fn unshown<R: Eprint>(rt: &R, error: io::Error) -> io::Result<Finishe
     Ok(Finished { status: 1 })
 }
 
+/// Says why the log of that file isn't locked.
+pub(crate) fn unlocked<R: Eprint>(rt: &R, file: &str, fault: KeepError) -> io::Result<Finished> {
+    match fault {
+        KeepError::Missing | KeepError::Exists => rt.eprintln(format_args!("{file}: {fault}"))?,
+        _ => rt.eprintln(fault)?,
+    }
+    Ok(Finished {
+        status: fault.status(),
+    })
+}
+
 /// Says why a log isn't served, or a file isn't read or written. What keeps a log from being taken over was told line by
 /// line.
 pub(crate) fn kept<R: Eprint>(rt: &R, served: Result<(), KeepError>) -> io::Result<Finished> {

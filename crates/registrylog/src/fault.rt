@@ -1,5 +1,5 @@
 // Why a log isn't served.
-use reg_journal::JournalOpenError;
+use reg_journal::{JournalOpenError, SystemError, Trouble};
 use reg_records::{LogError, LogFault};
 use reg_service::ServiceError;
 use std::alloc::{AllocError, AllocFailed};
@@ -12,12 +12,21 @@ pub(crate) enum KeepError {
     /// Another process serves it.
     #[error("log is in use")]
     InUse,
+    /// There is no file, or one without a byte, and none is to be made.
+    #[error("no log is there. Is its disk mounted, its name right? With --new a new one is made")]
+    Missing,
+    /// A new log is to be made where one is.
+    #[error("a log is there already. Without --new it is served")]
+    Exists,
     /// The first line that has a fault; lines count from 1.
     #[error("line {line}: {fault}")]
     Line { line: u64, fault: LogFault },
     /// The file or one beside it failed.
-    #[error("log file: {0:?}")]
-    File(ErrorKind),
+    #[error("log file: {0}")]
+    File(SystemError),
+    /// The path of the log named another file, or none, while it was opened.
+    #[error("log file: renamed, removed or replaced")]
+    Unnamed,
     /// A file is there already that is to be written before it takes another name.
     #[error("there is a file with .new behind the name of the output already")]
     Unfinished,
@@ -28,12 +37,22 @@ pub(crate) enum KeepError {
 }
 
 impl KeepError {
+    /// The refusal of a disk that is full, if it is one.
+    pub(crate) fn of_full_disk(self) -> Option<SystemError> {
+        match self {
+            KeepError::File(error) if error.is_of_full_disk() => Some(error),
+            _ => None,
+        }
+    }
+
     /// The exit status of a program that ends with it.
     pub(crate) fn status(self) -> u8 {
         match self {
-            KeepError::InUse | KeepError::Line { line: _, fault: _ } => 2,
+            KeepError::InUse | KeepError::Missing | KeepError::Exists => 2,
+            KeepError::Line { line: _, fault: _ } => 2,
             KeepError::Start(ServiceError::Closed(_)) => 2,
             KeepError::File(_)
+            | KeepError::Unnamed
             | KeepError::Unfinished
             | KeepError::OutOfMemory
             | KeepError::Start(_) => 1,
@@ -45,7 +64,7 @@ impl From<io::Error> for KeepError {
     fn from(error: io::Error) -> KeepError {
         match error.kind() {
             ErrorKind::OutOfMemory => KeepError::OutOfMemory,
-            kind => KeepError::File(kind),
+            _ => KeepError::File(SystemError::of(&error)),
         }
     }
 }
@@ -62,8 +81,9 @@ impl<T: Drop> From<AllocFailed<T>> for KeepError {
     }
 }
 
-impl From<JournalOpenError> for KeepError {
-    fn from(error: JournalOpenError) -> KeepError {
+impl KeepError {
+    /// Why a log wasn't opened, where that was the trouble with its file last.
+    pub(crate) fn of_opening(error: JournalOpenError, trouble: Option<Trouble>) -> KeepError {
         match error {
             JournalOpenError::Log(LogError::Fault { line, fault }) => KeepError::Line {
                 line,
@@ -73,7 +93,11 @@ impl From<JournalOpenError> for KeepError {
                 KeepError::OutOfMemory,
             JournalOpenError::Log(LogError::ReadFault { line: _ })
             | JournalOpenError::NoEmptyLine
-            | JournalOpenError::Failed => KeepError::File(ErrorKind::Other),
+            | JournalOpenError::Failed => match trouble {
+                Some(Trouble::Refused(error)) => KeepError::File(error),
+                Some(Trouble::Unnamed) => KeepError::Unnamed,
+                None => KeepError::File(SystemError::of(&io::Error::from(ErrorKind::Other))),
+            },
         }
     }
 }

@@ -1,18 +1,20 @@
 // `registrylog keep`: nodes over a log in a file.
 use crate::fault::KeepError;
 use crate::metered::MeteredFile;
-use crate::opening::{Locked, lock, open_or_make, start_log};
+use crate::opening::{Locked, open_file, start_log, sync_folder};
 use crate::place::Place;
 use crate::progress::Progress;
 use crate::telling::Telling;
 use crate::watching::SharedBoard;
-use reg_file_keep::{FileKeep, Started};
+use reg_file_keep::{LogKeep, Started, start_closed};
 use reg_inspection::obstacles;
-use reg_journal::{StoredFile, look};
+use reg_journal::{Disk, StoredFile, SystemError, look};
 use reg_pen::{KeptLog, Told};
+use reg_records::Log;
 use reg_serve::listen;
 use reg_service::{Endpoints, ServiceError, Size};
 use std::alloc::Global;
+use std::fmt;
 use std::fs::{File, Files};
 use std::io::Eprint;
 use std::net::{Net, TcpListener, TcpStream};
@@ -31,7 +33,61 @@ pub(crate) struct KeepPorts<R: Drop> {
     next: u64,
     bytes: u64,
     progress: Option<Progress>,
+    /// Whether the log was made.
+    is_new: bool,
     board: SharedBoard,
+}
+
+impl<R: Drop> KeepPorts<R> {
+    pub(crate) fn new(
+        rt: R,
+        alloc: Global,
+        place: Place,
+        progress: Progress,
+        is_new: bool,
+        board: SharedBoard,
+    ) -> KeepPorts<R> {
+        KeepPorts {
+            rt,
+            alloc,
+            place,
+            records: 0,
+            next: 0,
+            bytes: 0,
+            progress: Some(progress),
+            is_new,
+            board,
+        }
+    }
+
+    /// How many nodes there are, and workers of each.
+    pub(crate) fn size(&self) -> Size {
+        Size {
+            nodes: self.place.nodes,
+            workers: self.place.workers,
+            limit: None,
+        }
+    }
+
+    /// Notes how many bytes are to be read.
+    fn has_size(&self, bytes: u64) {
+        if let Some(progress) = &self.progress {
+            progress.has_size(bytes);
+        }
+    }
+
+    /// Notes what was read, in so many lines and bytes.
+    fn has_read(&mut self, log: &Log, lines: u64, bytes: u64) {
+        if let Some(progress) = &self.progress {
+            progress.has_read(lines, bytes);
+        }
+        self.records = log.records.len() as u64;
+        self.next = log.next;
+        self.bytes = bytes;
+        self.board.file.lines.set(lines);
+        self.board.file.bytes.set(bytes);
+        self.board.file.next.set(log.next);
+    }
 }
 
 impl<R: Net<Listener = TcpListener, Stream = TcpStream> + Threads + Eprint + Clock + Drop> Endpoints
@@ -52,6 +108,9 @@ impl<R: Net<Listener = TcpListener, Stream = TcpStream> + Threads + Eprint + Clo
             progress.end(&self.rt);
         }
         self.board.marks.listens.set(true);
+        if self.is_new {
+            let _told = self.rt.eprintln("made a new log");
+        }
         let _told = self.rt.eprintln(format_args!(
             "serving {records} records, next offset {next}, {bytes} bytes"
         ));
@@ -59,76 +118,142 @@ impl<R: Net<Listener = TcpListener, Stream = TcpStream> + Threads + Eprint + Clo
     }
 }
 
-/// A log's file that is opened, under its lock.
-#[derive(Drop)]
-pub(crate) struct Opened<R: Files<File = File> + Clock + Eprint + Drop> {
-    pub(crate) path: String,
-    pub(crate) lock: File,
-    pub(crate) kept: KeptLog<Told<FileKeep<MeteredFile<R>>, Telling<R>>>,
-    pub(crate) size: Size,
-    pub(crate) ports: KeepPorts<R>,
+/// The log of a file with its keep, which says what goes wrong.
+pub(crate) type ToldLog<R> = KeptLog<Told<LogKeep<MeteredFile<R>>, Telling<R>>>;
+
+/// The disk of a log's file.
+fn disk_of<R: Files<File = File> + Clock + Copy + Drop>(
+    rt: R,
+    alloc: Global,
+    path: &str,
+    file: File,
+    board: &SharedBoard,
+) -> Result<MeteredFile<R>, KeepError> {
+    let disk = StoredFile::new(alloc, rt, path, file)?;
+    Ok(MeteredFile::new(rt, disk, Arc::try_clone(board)?))
 }
 
 /// Opens the file of a log, and compacts it where that is due.
 pub(crate) fn open_log<R: Files<File = File> + Clock + Eprint + Copy + Drop>(
     rt: R,
     alloc: Global,
-    file: &str,
-    place: Place,
-    progress: Progress,
+    locked: &Locked,
+    ports: &mut KeepPorts<R>,
     board: &SharedBoard,
-) -> Result<Opened<R>, KeepError> {
-    let Locked {
-        path,
-        file: opened,
-        lock,
-    } = lock(&rt, alloc, file)?;
-    progress.has_size(opened.metadata()?.len());
-    let disk = StoredFile::new(alloc, rt, path.as_str(), opened)?;
+) -> Result<ToldLog<R>, KeepError> {
+    let path = locked.path.as_str();
+    let file = open_file(&rt, path)?;
+    sync_folder(&rt, path)?;
+    let like = file.metadata()?;
+    ports.has_size(like.len());
+    let mut disk = StoredFile::new(alloc, rt, path, file)?;
+    // Another process may have put a new file there before this one was locked.
+    if !matches!(disk.is_named(), Ok(true)) {
+        return Err(KeepError::Unnamed);
+    }
     disk.remove_unfinished()?;
     let disk = MeteredFile::new(rt, disk, Arc::try_clone(board)?);
-    let Started { kept, end, cut: _ } = start_log(rt, alloc, disk, path.as_str())?;
-    let bytes = (end as u64).saturating_add(1);
-    let lines = kept.keep().journal().lines();
-    progress.has_read(lines, bytes);
-    board.file.lines.set(lines);
-    board.file.bytes.set(bytes);
-    board.file.next.set(kept.log().next);
+    let Started { kept, end, cut: _ } = start_log(rt, alloc, disk, path, like)?;
     let mut telling = Telling::new(rt, Arc::try_clone(board)?);
-    telling.tell_fault(kept.keep().compaction_fault());
-    let ports = KeepPorts {
-        rt,
-        alloc,
-        place,
-        records: kept.log().records.len() as u64,
-        next: kept.log().next,
-        bytes,
-        progress: Some(progress),
-        board: Arc::try_clone(board)?,
+    if let LogKeep::Open(keep) = kept.keep() {
+        let bytes = (end as u64).saturating_add(1);
+        ports.has_read(kept.log(), keep.journal().lines(), bytes);
+        telling.tell_fault(keep);
+    }
+    Ok(kept.telling(telling))
+}
+
+/// Why lookups alone are served.
+#[derive(Clone, Copy, Debug, PartialEq, Eq)]
+enum Shortage {
+    /// The log has no line for the mark of ids that it owes.
+    Lines,
+    /// The disk had no room for what the start has to write.
+    Disk(SystemError),
+}
+
+impl fmt::Display for Shortage {
+    fn fmt<W: fmt::Write>(&self, f: &mut fmt::Formatter<W>) -> fmt::Result {
+        match self {
+            Shortage::Lines => f.write_str(
+                "log is full: no line is left for the mark of ids. Lookups are served, commands are declined until a start over a \
+                 smaller log",
+            ),
+            Shortage::Disk(error) => write!(
+                f,
+                "{error}: the log couldn't be made ready for commands. Lookups are served, commands are declined until a start with \
+                 room on the disk"
+            ),
+        }
+    }
+}
+
+/// The log of a file for lookups alone, where a start ended for want of room; else that end.
+pub(crate) fn open_short<R: Files<File = File> + Clock + Eprint + Copy + Drop>(
+    rt: R,
+    alloc: Global,
+    locked: &Locked,
+    ended: Result<(), KeepError>,
+    ports: &mut KeepPorts<R>,
+    board: &SharedBoard,
+) -> Result<ToldLog<R>, Result<(), KeepError>> {
+    let Some(shortage) = shortage_of(ended, board) else {
+        return Err(ended);
     };
-    let size = Size {
-        nodes: place.nodes,
-        workers: place.workers,
-        limit: None,
+    match open_closed(rt, alloc, locked, shortage, ports, board) {
+        Ok(log) => Ok(log),
+        Err(fault) => Err(Err(fault)),
+    }
+}
+
+/// Why a start ended, where lookups can be served all the same.
+fn shortage_of(ended: Result<(), KeepError>, board: &SharedBoard) -> Option<Shortage> {
+    match ended {
+        Err(KeepError::Start(ServiceError::Full)) => Some(Shortage::Lines),
+        Err(KeepError::Start(ServiceError::NotKept)) => board.full_disk().map(Shortage::Disk),
+        Err(fault) => fault.of_full_disk().map(Shortage::Disk),
+        Ok(()) => None,
+    }
+}
+
+/// Reads the log of a file for lookups alone, and says why.
+fn open_closed<R: Files<File = File> + Clock + Eprint + Copy + Drop>(
+    rt: R,
+    alloc: Global,
+    locked: &Locked,
+    shortage: Shortage,
+    ports: &mut KeepPorts<R>,
+    board: &SharedBoard,
+) -> Result<ToldLog<R>, KeepError> {
+    let path = locked.path.as_str();
+    let file = open_file(&rt, path)?;
+    let bytes = file.metadata()?.len();
+    let mut disk = disk_of(rt, alloc, path, file, board)?;
+    let kept = match start_closed(alloc, &mut disk) {
+        Ok(kept) => kept,
+        Err(error) => return Err(KeepError::of_opening(error, disk.trouble())),
     };
-    Ok(Opened {
-        path,
-        lock,
-        kept: kept.telling(telling),
-        size,
-        ports,
-    })
+    let lines = (kept.log().records.len() as u64).saturating_add(kept.log().foreign);
+    ports.has_read(kept.log(), lines, bytes);
+    let marks = &board.marks;
+    marks.is_lost.set(false);
+    match shortage {
+        Shortage::Lines => marks.is_full.set(true),
+        Shortage::Disk(_) => marks.is_declined.set(true),
+    }
+    let _told = rt.eprintln(shortage);
+    Ok(kept.telling(Telling::new(rt, Arc::try_clone(board)?)))
 }
 
 /// The end of nodes over the log of a file. Where the log can't be taken over it is told why.
 pub(crate) fn ended<R: Files<File = File> + Eprint + Copy + Drop>(
     rt: R,
     alloc: Global,
-    path: &str,
+    locked: &Locked,
     served: Result<(), ServiceError>,
 ) -> Result<(), KeepError> {
     if let Err(ServiceError::Closed(_)) = served {
-        tell_obstacles(rt, alloc, path)?;
+        tell_obstacles(rt, alloc, locked.path.as_str())?;
     }
     Ok(served?)
 }
@@ -139,9 +264,12 @@ fn tell_obstacles<R: Files<File = File> + Eprint + Copy + Drop>(
     alloc: Global,
     path: &str,
 ) -> Result<(), KeepError> {
-    let file = open_or_make(&rt, path)?;
+    let file = File::open(&rt, path)?;
     let mut disk = StoredFile::new(alloc, rt, path, file)?;
-    let found = look(alloc, &mut disk)?;
+    let found = match look(alloc, &mut disk) {
+        Ok(found) => found,
+        Err(error) => return Err(KeepError::of_opening(error, disk.trouble())),
+    };
     for obstacle in obstacles(alloc, &found.log)? {
         let text = obstacle.text(alloc)?;
         let _told = rt.eprintln(format_args!("{text}"));

@@ -21,12 +21,14 @@ mod replacing;
 mod telling;
 mod watching;
 
-use crate::ends::{Finished, joined, kept, misread, refused, tailed, told, unshown};
+use crate::ends::{Finished, joined, kept, misread, refused, tailed, told, unlocked, unshown};
+use crate::fault::KeepError;
 use crate::filtering::{Wish, base, check, compact};
 use crate::following::{PIECE, follow};
 use crate::hearing::Heard;
 use crate::joining::{JoinPorts, Requests, join_size, tell_rules};
-use crate::keeping::{Opened, ended, open_log};
+use crate::keeping::{KeepPorts, ended, open_log, open_short};
+use crate::opening::lock;
 use crate::place::Place;
 use crate::progress::Progress;
 use crate::watching::{Shown, make_board, shown_by};
@@ -70,18 +72,25 @@ fn main(rt: HostRuntime) -> io::Result<Finished> {
             workers,
             metrics: _,
             quiet,
+            is_new,
         } => {
+            let locked = match lock(&rt, alloc, file, is_new) {
+                Ok(locked) => locked,
+                Err(fault) => return unlocked(&rt, file, fault),
+            };
             let place = Place::new(listen, nodes, workers);
             let progress = Progress::begin(rt, alloc, Some(file), quiet)?;
-            match open_log(rt, alloc, file, place, progress, &board) {
-                Ok(opened) => {
-                    let Opened {
-                        path,
-                        lock,
-                        kept: log,
-                        size,
-                        mut ports,
-                    } = opened;
+            let mut ports = KeepPorts::new(
+                rt,
+                alloc,
+                place,
+                progress,
+                is_new,
+                Arc::try_clone(&board)?,
+            );
+            let size = ports.size();
+            let served = match open_log(rt, alloc, &locked, &mut ports, &board) {
+                Ok(log) => {
                     let served = serve_log(
                         rt,
                         alloc,
@@ -91,11 +100,27 @@ fn main(rt: HostRuntime) -> io::Result<Finished> {
                         &mut ports,
                         log,
                     );
-                    drop(lock);
-                    kept(&rt, ended(rt, alloc, path.as_str(), served))
+                    ended(rt, alloc, &locked, served)
                 }
-                Err(fault) => kept(&rt, Err(fault)),
-            }
+                Err(fault) => Err(fault),
+            };
+            let served = match open_short(rt, alloc, &locked, served, &mut ports, &board) {
+                Ok(log) => {
+                    let served = serve_log(
+                        rt,
+                        alloc,
+                        size,
+                        &NoGate,
+                        &board.traffic,
+                        &mut ports,
+                        log,
+                    );
+                    ended(rt, alloc, &locked, served)
+                }
+                Err(ended) => ended,
+            };
+            drop(locked);
+            kept(&rt, served)
         }
         LogCommand::Follow {
             listen,

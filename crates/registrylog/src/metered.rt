@@ -2,7 +2,7 @@
 ghost use Rattle.std.specs.Prelude.{[], ⊤};
 
 use crate::watching::SharedBoard;
-use reg_journal::{Disk, DiskError, RenewError, Renewable, StoredFile};
+use reg_journal::{Disk, DiskError, RenewError, Renewable, StoredFile, Trouble};
 use reg_meters::microseconds;
 use std::alloc::Global;
 use std::fs::{File, Files};
@@ -17,6 +17,10 @@ pub(crate) struct MeteredFile<R: Files<File = File> + Drop> {
     /// When its length was asked for last, which is how an append begins, and how long after that it was synced last. In microseconds.
     begun: u64,
     took: u64,
+    /// How many bytes it had when that was asked for last.
+    len: usize,
+    /// Why the last compaction left the file as it was, if it did.
+    unrenewed: Option<Trouble>,
 }
 
 impl<R: Files<File = File> + Clock + Drop> MeteredFile<R> {
@@ -27,7 +31,28 @@ impl<R: Files<File = File> + Clock + Drop> MeteredFile<R> {
             board,
             begun: 0,
             took: 0,
+            len: 0,
+            unrenewed: None,
         }
+    }
+
+    pub(crate) fn path(&self) -> &str {
+        self.file.path()
+    }
+
+    /// How many bytes it had when that was asked for last, which is how an append begins.
+    pub(crate) fn len(&self) -> usize {
+        self.len
+    }
+
+    /// What went wrong with the file last, but for a compaction that left it as it was.
+    pub(crate) fn trouble(&self) -> Option<Trouble> {
+        self.file.trouble()
+    }
+
+    /// Why the last compaction left the file as it was, if it did.
+    pub(crate) fn unrenewed(&self) -> Option<Trouble> {
+        self.unrenewed
     }
 
     /// How long the last append took, in microseconds.
@@ -49,6 +74,8 @@ impl<R: Files<File = File> + Clock + Drop> Disk for MeteredFile<R> {
 
     ghost left_since = { λ f t c. ⊤ };
 
+    ghost named = { λ f is. ⊤ };
+
     ghost seen_counts = { λ f none. absurd none };
 
     ghost counts_now = { λ f t c none. absurd none };
@@ -57,11 +84,17 @@ impl<R: Files<File = File> + Clock + Drop> Disk for MeteredFile<R> {
 
     fn size(&mut self) -> Result<usize, DiskError> {
         self.begun = microseconds(&self.rt);
-        self.file.size()
+        let _earlier = self.file.take_trouble();
+        self.len = self.file.size()?;
+        Ok(self.len)
     }
 
     fn read(&mut self, alloc: Global) -> Result<Vec<u8>, DiskError> {
         self.file.read(alloc)
+    }
+
+    fn is_named(&mut self) -> Result<bool, DiskError> {
+        self.file.is_named()
     }
 
     fn write_at(&mut self, at: usize, bytes: &[u8]) -> Result<(), DiskError> {
@@ -90,6 +123,9 @@ impl<R: Files<File = File> + Clock + Drop> Renewable for MeteredFile<R> {
         match renewed {
             Ok(()) => meters.renewed.add(1),
             Err(_) => meters.not_renewed.add(1),
+        }
+        if matches!(renewed, Err(RenewError::Kept(_))) {
+            self.unrenewed = self.file.take_trouble();
         }
         renewed
     }

@@ -3,27 +3,98 @@ use crate::fault::KeepError;
 use crate::metered::MeteredFile;
 use reg_compaction::{Aside, Opens};
 use reg_file_keep::{NotStarted, Started, start_file_keep};
-use reg_journal::{DiskError, StoredFile};
+use reg_journal::{DiskError, StoredFile, lock_file, make_alike, remove_if_there};
 use std::alloc::Global;
-use std::fs::{File, Files, TryLockError};
-use std::io::Eprint;
+use std::fs::{File, Files, Metadata, Permissions};
+use std::io::{self, Eprint, ErrorKind};
+use std::os::unix::fs::{MetadataExt, OpenOptionsExt, PermissionsExt, fchown};
 use std::path::Path;
 use std::time::Clock;
+
+/// The rights to a lock: who can read it could take it.
+const LOCK_RIGHTS: u32 = 0o600;
 
 /// A log's file. While this is there no other process has it.
 #[derive(Drop)]
 pub(crate) struct Locked {
     /// Where it is, with no link left in it.
     pub(crate) path: String,
-    pub(crate) file: File,
     pub(crate) lock: File,
 }
 
-/// Opens a file for reading and writing; it is made where it isn't there.
-pub(crate) fn open_or_make<R: Files<File = File>>(rt: &R, path: &str) -> Result<File, KeepError> {
+/// Takes the lock of a log's file, which is a file beside it that is never removed. The log has to be there, or, where it is to
+/// be new, not yet.
+pub(crate) fn lock<R: Files<File = File>>(
+    rt: &R,
+    alloc: Global,
+    file: &str,
+    is_new: bool,
+) -> Result<Locked, KeepError> {
+    check_new(rt, file, is_new)?;
+    if is_new {
+        let mut how = File::options();
+        let made = how.write(true).create(true).open(rt, file)?;
+        drop(made);
+    }
+    let found = rt.canonicalize(alloc, file)?;
+    let path = String::from_str(alloc, found.as_path().as_str())?;
+    let like = rt.metadata(path.as_str())?;
+    let lock = open_lock(rt, beside(alloc, path.as_str(), ".lock")?.as_str(), &like)?;
+    taken(lock_file(&lock))?;
+    // Looked again, since another process may have had the lock until now.
+    check_new(rt, path.as_str(), is_new)?;
+    Ok(Locked { path, lock })
+}
+
+/// Refuses a log that isn't there, or one that is where it is to be new. A file without a byte is none.
+fn check_new<R: Files>(rt: &R, path: &str, is_new: bool) -> Result<(), KeepError> {
+    match (has_bytes(rt.metadata(path))?, is_new) {
+        (true, true) => Err(KeepError::Exists),
+        (false, false) => Err(KeepError::Missing),
+        _ => Ok(()),
+    }
+}
+
+/// Whether there is a file, and something in it.
+fn has_bytes(found: io::Result<Metadata>) -> io::Result<bool> {
+    match found {
+        Ok(found) => Ok(found.len() > 0),
+        Err(error) if error.kind() == ErrorKind::NotFound => Ok(false),
+        Err(error) => Err(error),
+    }
+}
+
+/// A lock that another process has is that of a log which is in use.
+pub(crate) fn taken(locked: io::Result<()>) -> Result<(), KeepError> {
+    match locked {
+        Ok(()) => Ok(()),
+        Err(error) if error.kind() == ErrorKind::WouldBlock => Err(KeepError::InUse),
+        Err(error) => Err(KeepError::from(error)),
+    }
+}
+
+/// Opens the file of a lock, made where it isn't there. It gets the owner of the log and the rights that it is to have, also an older one,
+/// as far as this process may give them.
+fn open_lock<R: Files<File = File>>(rt: &R, path: &str, log: &Metadata) -> io::Result<File> {
     let mut how = File::options();
-    how.read(true).write(true).create(true);
-    Ok(how.open(rt, path)?)
+    how.read(true).write(true).create(true).mode(LOCK_RIGHTS);
+    let lock = how.open(rt, path)?;
+    let found = lock.metadata()?;
+    if found.permissions().mode() & 0o777 != LOCK_RIGHTS {
+        let _others = lock.set_permissions(Permissions::from_mode(LOCK_RIGHTS));
+    }
+    if found.uid() != log.uid() || found.gid() != log.gid() {
+        let _others = fchown(&lock, Some(log.uid()), Some(log.gid()));
+    }
+    Ok(lock)
+}
+
+/// Opens a log's file for reading and writing, and takes its own lock: the one beside it may be removed, and isn't there for another name
+/// of the file.
+pub(crate) fn open_file<R: Files<File = File>>(rt: &R, path: &str) -> Result<File, KeepError> {
+    let file = File::options().read(true).write(true).open(rt, path)?;
+    taken(lock_file(&file))?;
+    Ok(file)
 }
 
 /// The path with more behind its name.
@@ -34,66 +105,56 @@ fn beside(alloc: Global, path: &str, more: &str) -> Result<String, KeepError> {
 }
 
 /// Puts the names in a file's folder on the disk.
-fn sync_folder<R: Files<File = File>>(rt: &R, path: &str) -> Result<(), KeepError> {
+pub(crate) fn sync_folder<R: Files<File = File>>(rt: &R, path: &str) -> io::Result<()> {
     let folder = match Path::new(path).parent() {
         Some(folder) if !folder.as_str().is_empty() => folder.as_str(),
         _ => ".",
     };
-    let folder = File::open(rt, folder)?;
-    Ok(folder.sync_all()?)
+    File::open(rt, folder)?.sync_all()
 }
 
-/// Opens a log's file, made where it isn't there, and takes its lock, which is a file beside it that is never
-/// removed.
-pub(crate) fn lock<R: Files<File = File>>(
-    rt: &R,
-    alloc: Global,
-    file: &str,
-) -> Result<Locked, KeepError> {
-    let made = open_or_make(rt, file)?;
-    drop(made);
-    let found = rt.canonicalize(alloc, file)?;
-    let path = String::from_str(alloc, found.as_path().as_str())?;
-    let lock = open_or_make(rt, beside(alloc, path.as_str(), ".lock")?.as_str())?;
-    match lock.try_lock() {
-        Ok(()) => {}
-        Err(TryLockError::WouldBlock) => return Err(KeepError::InUse),
-        Err(TryLockError::Error(e)) => return Err(KeepError::from(e)),
-    }
-    // Opened again, since a compaction by another process may have put a new file there by now.
-    let file = open_or_make(rt, path.as_str())?;
-    sync_folder(rt, path.as_str())?;
-    Ok(Locked { path, file, lock })
-}
-
-/// Opens the file for what stands behind a log, and puts its name on the disk.
+/// Makes the file for what stands behind a log, under a name that no other has, and gives it its own once it is whole.
 #[derive(Drop)]
 struct CutFile<R: Drop> {
     rt: R,
     alloc: Global,
+    /// The log's file, whose owner and rights it gets.
+    like: Metadata,
     path: String,
-    /// Why it wasn't opened.
+    /// Where it is written.
+    unfinished: String,
+    /// Why it wasn't made.
     fault: Option<KeepError>,
 }
 
 impl<R: Files<File = File> + Copy + Drop> CutFile<R> {
-    fn open_named(&self) -> Result<StoredFile<R>, KeepError> {
-        let path = self.path.as_str();
-        let file = open_or_make(&self.rt, path)?;
-        sync_folder(&self.rt, path)?;
-        Ok(StoredFile::new(self.alloc, self.rt, path, file)?)
+    fn make(&self) -> io::Result<StoredFile<R>> {
+        let path = self.unfinished.as_str();
+        remove_if_there(&self.rt, path)?;
+        let file = make_alike(&self.rt, path, &self.like)?;
+        StoredFile::new(self.alloc, self.rt, path, file)
+    }
+
+    fn noted<T: Drop>(&mut self, made: io::Result<T>) -> Result<T, DiskError> {
+        match made {
+            Ok(made) => Ok(made),
+            Err(error) => {
+                self.fault = Some(KeepError::from(error));
+                Err(DiskError::Failed)
+            }
+        }
     }
 }
 
 impl<R: Files<File = File> + Copy + Drop> Opens<StoredFile<R>> for CutFile<R> {
     fn open_disk(&mut self) -> Result<StoredFile<R>, DiskError> {
-        match self.open_named() {
-            Ok(disk) => Ok(disk),
-            Err(fault) => {
-                self.fault = Some(fault);
-                Err(DiskError::Failed)
-            }
-        }
+        let made = self.make();
+        self.noted(made)
+    }
+
+    fn put_in_place(&mut self, disk: &StoredFile<R>) -> Result<(), DiskError> {
+        let moved = disk.move_to(self.path.as_str());
+        self.noted(moved)
     }
 }
 
@@ -104,11 +165,14 @@ pub(crate) fn start_log<R: Files<File = File> + Clock + Eprint + Copy + Drop>(
     alloc: Global,
     disk: MeteredFile<R>,
     path: &str,
+    like: Metadata,
 ) -> Result<Started<MeteredFile<R>>, KeepError> {
     let cut = CutFile {
         rt,
         alloc,
+        like,
         path: beside(alloc, path, ".cut")?,
+        unfinished: beside(alloc, path, ".cut.new")?,
         fault: None,
     };
     let mut aside = Aside {
@@ -116,23 +180,26 @@ pub(crate) fn start_log<R: Files<File = File> + Clock + Eprint + Copy + Drop>(
         disk: None,
     };
     let started = start_file_keep(alloc, disk, &mut aside);
-    let Aside { opener, disk: _ } = aside;
-    let CutFile {
-        rt: _,
-        alloc: _,
-        path: cut,
-        fault,
-    } = opener;
+    let Aside { opener, disk: put } = aside;
     match started {
         Ok(started) => {
             let count = started.cut;
             if count > 0 {
+                let cut = opener.path.as_str();
                 let _told = rt.eprintln(format_args!(
                     "{count} bytes behind the log were put into {cut}"
                 ));
             }
             Ok(started)
         }
-        Err(NotStarted { disk: _, error }) => Err(fault.unwrap_or(KeepError::from(error))),
+        Err(NotStarted { disk, error }) => {
+            let cut = put.and_then(|put| put.trouble());
+            let trouble = disk.trouble().or(cut);
+            Err(
+                opener
+                    .fault
+                    .unwrap_or(KeepError::of_opening(error, trouble)),
+            )
+        }
     }
 }

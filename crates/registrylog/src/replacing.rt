@@ -1,9 +1,10 @@
 // A new file in the place of another, or where none is.
 use crate::fault::KeepError;
+use crate::opening::taken;
+use reg_journal::{lock_file, make_alike};
 use std::alloc::Global;
-use std::fs::{File, Files, TryLockError};
+use std::fs::{File, Files};
 use std::io::{self, ErrorKind};
-use std::os::unix::fs::{MetadataExt, OpenOptionsExt, fchown};
 use std::path::Path;
 
 /// A file that is being written beside a path, with `.new` behind its name, and is to be put at that path.
@@ -12,7 +13,9 @@ pub(crate) struct NewFile {
     pub(crate) file: File,
     path: String,
     beside: String,
-    /// The lock of the log at the path, where it has one: while this is there no process serves that log.
+    /// The file at the path, where one is, and the lock of the log there, where it has one, both locked: while these are there no process
+    /// serves that log.
+    old: Option<File>,
     lock: Option<File>,
 }
 
@@ -30,8 +33,11 @@ impl NewFile {
             None => String::from_str(alloc, path)?,
         };
         let lock = lock_of(rt, alloc, path.as_str())?;
+        if let Some(old) = &old {
+            taken(lock_file(old))?;
+        }
         let beside = with_ending(alloc, path.as_str(), ".new")?;
-        let file = match made(rt, beside.as_str(), old) {
+        let file = match made(rt, beside.as_str(), &old) {
             Ok(file) => file,
             Err(error) if error.kind() == ErrorKind::AlreadyExists => {
                 return Err(KeepError::Unfinished);
@@ -42,6 +48,7 @@ impl NewFile {
             file,
             path,
             beside,
+            old,
             lock,
         })
     }
@@ -73,20 +80,11 @@ fn found(opened: io::Result<File>) -> io::Result<Option<File>> {
 }
 
 /// A new file, with the owner and the permissions of an old one, if there is one.
-fn made<R: Files<File = File>>(rt: &R, path: &str, old: Option<File>) -> io::Result<File> {
-    let mut how = File::options();
-    how.write(true).create_new(true);
-    let Some(old) = old else {
-        return how.open(rt, path);
-    };
-    how.mode(0o600);
-    let file = how.open(rt, path)?;
-    let (rights, own) = (old.metadata()?, file.metadata()?);
-    if own.uid() != rights.uid() || own.gid() != rights.gid() {
-        fchown(&file, Some(rights.uid()), Some(rights.gid()))?;
+fn made<R: Files<File = File>>(rt: &R, path: &str, old: &Option<File>) -> io::Result<File> {
+    match old {
+        Some(old) => make_alike(rt, path, &old.metadata()?),
+        None => File::options().write(true).create_new(true).open(rt, path),
     }
-    file.set_permissions(rights.permissions())?;
-    Ok(file)
 }
 
 /// The lock of the log at a path, where it has one, which no other process has then.
@@ -99,11 +97,8 @@ fn lock_of<R: Files<File = File>>(
     let Some(lock) = found(File::open(rt, name.as_str()))? else {
         return Ok(None);
     };
-    match lock.try_lock() {
-        Ok(()) => Ok(Some(lock)),
-        Err(TryLockError::WouldBlock) => Err(KeepError::InUse),
-        Err(TryLockError::Error(error)) => Err(KeepError::from(error)),
-    }
+    taken(lock_file(&lock))?;
+    Ok(Some(lock))
 }
 
 fn with_no_link<R: Files<File = File>>(

@@ -1,7 +1,8 @@
 // What an operator looks at: whether commands are answered, and numbers.
 use exposition::page_text;
 use log_arguments::{LogCommand, VERSION};
-use reg_meters::{Traffic, microseconds};
+use reg_journal::SystemError;
+use reg_meters::{Mark, Traffic, microseconds};
 use reg_metrics::{
     AdapterMeters, BatchMeters, FileMeters, LineMeters, Marks, Pages, Stage, adapter_families,
     batch_families, file_families, line_families, process_families, process_numbers,
@@ -9,6 +10,7 @@ use reg_metrics::{
 };
 use std::alloc::{Alloc, AllocError, Global};
 use std::fs::Files;
+use std::io::ErrorKind;
 use std::net::SocketAddr;
 use std::sync::Arc;
 use std::time::Clock;
@@ -43,10 +45,35 @@ pub(crate) struct Board {
     pub(crate) batches: BatchMeters,
     /// Those of `keep` alone.
     pub(crate) file: FileMeters,
+    /// Whether the disk of a kept log, or the share of it that its owner may have, ran out.
+    pub(crate) is_disk_full: Mark,
+    pub(crate) is_quota_used_up: Mark,
     /// Those of `follow` alone.
     pub(crate) lines: LineMeters,
     /// Those of `join` alone.
     pub(crate) adapter: AdapterMeters,
+}
+
+impl Board {
+    /// Notes that the disk, or a share of it, is full.
+    pub(crate) fn ran_out(&self, error: SystemError) {
+        match error.kind {
+            ErrorKind::QuotaExceeded => self.is_quota_used_up.set(true),
+            _ => self.is_disk_full.set(true),
+        }
+    }
+
+    /// That the disk, or a share of it, is full, if it was noted.
+    pub(crate) fn full_disk(&self) -> Option<SystemError> {
+        let kind = if self.is_disk_full.is_set() {
+            ErrorKind::StorageFull
+        } else if self.is_quota_used_up.is_set() {
+            ErrorKind::QuotaExceeded
+        } else {
+            return None;
+        };
+        Some(SystemError { kind, number: None })
+    }
 }
 
 /// That of a process, for its threads.
@@ -59,6 +86,8 @@ pub(crate) fn make_board<R: Clock>(rt: &R, alloc: Global) -> Result<SharedBoard,
         traffic: Traffic::new(),
         batches: BatchMeters::new(),
         file: FileMeters::new(),
+        is_disk_full: Mark::new(),
+        is_quota_used_up: Mark::new(),
         lines: LineMeters::new(),
         adapter: AdapterMeters::new(),
     };

@@ -40,7 +40,7 @@ struct Scene<'a, R: Files<File = File> + Drop> {
 impl<'a, R: Files<File = File> + Drop> Scene<'a, R> {
     fn append(&mut self, offset: u64) -> bool {
         match batch_of(self.alloc, offset, 1) {
-            Ok(batch) => self.journal.append(self.alloc, &batch).is_ok(),
+            Ok(batch) => self.journal.append(self.alloc, &batch, 0).is_ok(),
             Err(_) => false,
         }
     }

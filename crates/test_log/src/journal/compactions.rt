@@ -77,7 +77,7 @@ fn goes_on(
     journal: &mut Journal<Torn>,
     answer: Result<u64, JournalCompactError>,
 ) -> Result<bool, Fail> {
-    let more = journal.append(alloc, &batch_of(alloc, 3, 1)?);
+    let more = journal.append(alloc, &batch_of(alloc, 3, 1)?, 0);
     Ok(match answer {
         Err(JournalCompactError::Lost) => matches!(more, Err(AppendError::Broken)),
         Err(_) => more.is_ok() && journal.lines() == 4,

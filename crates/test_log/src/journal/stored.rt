@@ -1,8 +1,8 @@
 // Files of the system that are replaced.
-use reg_journal::{Disk, DiskError, RenewError, Renewable, StoredFile};
+use reg_journal::{Disk, DiskError, RenewError, Renewable, StoredFile, Trouble, make_alike};
 use std::alloc::Global;
 use std::fs::{self, File, OpenOptions};
-use std::os::unix::fs::{MetadataExt, OpenOptionsExt};
+use std::os::unix::fs::{MetadataExt, OpenOptionsExt, symlink};
 use std::rt::Files;
 use std::test::Fail;
 
@@ -76,5 +76,55 @@ fn a_rename_that_fails_loses_the_file(rt: HostRuntime) -> Result<(), Fail> {
     fs::remove_dir(&rt, "lost.log")?;
     disk.remove_unfinished()?;
     assert!(rt; !fs::exists(&rt, "lost.log.new")?);
+    Ok(())
+}
+
+#[test]
+fn a_file_that_was_renamed_is_noticed(rt: HostRuntime) -> Result<(), Fail> {
+    let alloc = rt.alloc();
+    let mut disk = stored(&rt, alloc, "named.log", b"old\n")?;
+    assert_eq!(rt; disk.is_named(), Ok(true));
+    fs::rename(&rt, "named.log", "away.log")?;
+    assert_eq!(rt; disk.is_named(), Ok(false));
+    assert_eq!(rt; disk.trouble(), Some(Trouble::Unnamed));
+    // Another file of that name isn't the one, and isn't written over.
+    fs::write(&rt, "named.log", "another\n")?;
+    assert_eq!(rt; disk.is_named(), Ok(false));
+    assert!(rt; matches!(disk.renew(b"new\n"), Err(RenewError::Lost)));
+    assert_eq!(rt;
+        fs::read(&rt, "named.log")?.as_slice(),
+        b"another\n".as_slice()
+    );
+    assert!(rt; !fs::exists(&rt, "named.log.new")?);
+    fs::rename(&rt, "away.log", "named.log")?;
+    assert_eq!(rt; disk.is_named(), Ok(true));
+    // A file that it puts in its own place is the one from then on.
+    assert!(rt; disk.renew(b"new\n").is_ok());
+    assert_eq!(rt; disk.is_named(), Ok(true));
+    fs::remove_file(&rt, "named.log")?;
+    Ok(())
+}
+
+#[test]
+fn a_file_alike_is_made_where_none_is(rt: HostRuntime) -> Result<(), Fail> {
+    let alloc = rt.alloc();
+    let disk = stored(&rt, alloc, "alike.log", b"old\n")?;
+    let like = fs::metadata(&rt, "alike.log")?;
+    symlink(&rt, "alike.log", "link")?;
+    assert!(rt; make_alike(&rt, "link", &like).is_err());
+    assert_eq!(rt; fs::read(&rt, "alike.log")?.as_slice(), b"old\n".as_slice());
+    drop(make_alike(&rt, "made.log", &like)?);
+    assert_eq!(rt; fs::metadata(&rt, "made.log")?.mode(), like.mode());
+    assert!(rt; make_alike(&rt, "made.log", &like).is_err());
+    // It takes the place of the link, and not of what that leads to.
+    let how = OpenOptions::new()
+        .read(true)
+        .write(true)
+        .open(&rt, "made.log")?;
+    StoredFile::new(alloc, rt, "made.log", how)?.move_to("link")?;
+    assert_eq!(rt; fs::read(&rt, "link")?.as_slice(), b"".as_slice());
+    assert_eq!(rt; disk.path(), "alike.log");
+    fs::remove_file(&rt, "link")?;
+    fs::remove_file(&rt, "alike.log")?;
     Ok(())
 }

@@ -136,8 +136,8 @@ fn crashed(
 fn is_taken(rt: &impl Abort, alloc: Global, journal: &mut Journal<Torn>, batch: &[Record]) -> bool
     requires { All HasLine batch.now }
 {
-    let answer = journal.append(alloc, batch);
-    let again = journal.append(alloc, batch);
+    let answer = journal.append(alloc, batch, 0);
+    let again = journal.append(alloc, batch, 0);
     if answer.is_ok() {
         return true;
     }

@@ -232,6 +232,8 @@ impl Disk for Torn {
 
     ghost left_since = { λ f t c. ⊤ };
 
+    ghost named = { λ f is. ⊤ };
+
     ghost seen_counts = { λ f none. absurd none };
 
     ghost counts_now = { λ f t c none. absurd none };
@@ -244,6 +246,10 @@ impl Disk for Torn {
 
     fn read(&mut self, alloc: Global) -> Result<Vec<u8>, DiskError> {
         Ok(self.bytes.to_vec(alloc)?)
+    }
+
+    fn is_named(&mut self) -> Result<bool, DiskError> {
+        Ok(true)
     }
 
     fn write_at(&mut self, at: usize, bytes: &[u8]) -> Result<(), DiskError> {

@@ -8,7 +8,7 @@ pub returns-clause-file : goal.returns-clause-file
 returns-clause-file g c modelled whole base old new sound says durable keeps =
     let d = g.D.Disk in
     opened c.compactions_stand_for_logs.ensures.across c.compactions_stand_for_logs.ensures.batches d.is_modelled d.moment d.left_since
-    d.may_leave d.seen d.faults g.D.Renewable.renewals modelled whole old new (owed_by base.records.items base.next) sound says durable
+    d.may_leave d.seen d.faults g.D.Renewable.renewals d.named modelled whole old new (owed_by base.records.items base.next) sound says durable
     keeps
 
 pub returns-clause-start : goal.returns-clause-start
@@ -18,7 +18,7 @@ returns-clause-start g c modelled base old new stands keeps =
       it.0,
       it.1,
       opened c.compactions_stand_for_logs.ensures.across c.compactions_stand_for_logs.ensures.batches d.is_modelled d.moment d.left_since
-          d.may_leave d.seen d.faults g.D.Renewable.renewals modelled it.0 old new (owed_by base.records.items base.next) stands.sound
+          d.may_leave d.seen d.faults g.D.Renewable.renewals d.named modelled it.0 old new (owed_by base.records.items base.next) stands.sound
           it.2 (stands.durable modelled) keeps,
     )
 

@@ -9,6 +9,8 @@ use Rattle.reg_compaction.specs.Said.{SaysCompaction}
 use Rattle.reg_pen.specs.KeptState.{KeptState}
 use Rattle.reg_records.specs.declared.log.LogFault.{LogFault}
 use Rattle.reg_file_keep.specs.KeepState.{KeepState}
+use Rattle.reg_file_keep.specs.LogKeep.{IsOpen}
+use Rattle.reg_file_keep.specs.declared.log_keep.LogKeep.{LogKeep}
 use Rattle.reg_file_keep.specs.Starting.{LosesNothing}
 use Rattle.reg_file_keep.proofs.Starts.{kept_from, low_floor, moments_from}
 use Rattle.reg_file_keep.proofs.starting.start_file_keep.Goals as goal
@@ -68,7 +70,7 @@ returns-clause-kept g c modelled =
     ap (λ (k : KeepState g.row.D.Denot). k.journal.is_broken) c.new-keep.ensures
     ∙ ap (λ (j : JournalState g.row.D.Denot). j.is_broken) c.over-journal.ensures in
     let goes : b.journal.is_broken ≡ false = cc in
-    subst (λ (k : KeptState (KeepState g.row.D.Denot)). SaysCompaction (said (d.seen disk)) (said (d.seen k.keep.journal.disk)))
+    subst (λ (k : KeptState (LogKeep g.row.D.Denot)). IsOpen k.keep (λ keep. SaysCompaction (said (d.seen disk)) (said (d.seen keep.journal.disk))))
     (sym c.new-kept.ensures)
     (kept_from d.seen disk mid same told.0 told.1 a b at ((c.make_room.ensures.room sound).says modelled goes))
 
@@ -79,7 +81,7 @@ returns-clause-next g c =
     let sound : a.journal.is_broken ≡ false =
     ap (λ (k : KeepState g.row.D.Denot). k.journal.is_broken) c.new-keep.ensures
     ∙ ap (λ (j : JournalState g.row.D.Denot). j.is_broken) c.over-journal.ensures in
-    subst (λ (k : KeptState (KeepState g.row.D.Denot)). k.keep.next ≡ k.log.next) (sym c.new-kept.ensures)
+    subst (λ (k : KeptState (LogKeep g.row.D.Denot)). IsOpen k.keep (λ keep. keep.next ≡ k.log.next)) (sym c.new-kept.ensures)
     ((c.make_room.ensures.room sound).next ∙ ap (λ (k : KeepState g.row.D.Denot). k.next) c.new-keep.ensures)
 
 pub returns-clause-any_moment : goal.returns-clause-any_moment
@@ -97,8 +99,8 @@ returns-clause-any_moment g c modelled =
     let sound : a.journal.is_broken ≡ false =
     ap (λ (k : KeepState g.row.D.Denot). k.journal.is_broken) c.new-keep.ensures
     ∙ ap (λ (j : JournalState g.row.D.Denot). j.is_broken) c.over-journal.ensures in
-    subst (λ (k : KeptState (KeepState g.row.D.Denot)). LeavesOnly d.moment d.left_since d.may_leave disk k.keep.journal.disk
-    (λ f. HasAll (d.may_leave disk) (d.seen disk) f ⊎ SaysCompaction (said (d.seen disk)) (said f))) (sym c.new-kept.ensures)
+    subst (λ (k : KeptState (LogKeep g.row.D.Denot)). IsOpen k.keep (λ keep. LeavesOnly d.moment d.left_since d.may_leave disk keep.journal.disk
+    (λ f. HasAll (d.may_leave disk) (d.seen disk) f ⊎ SaysCompaction (said (d.seen disk)) (said f)))) (sym c.new-kept.ensures)
     (moments_from d.seen disk mid same told.0 told.1 d.moment d.left_since d.may_leave c.compactions_stand_for_logs.ensures.itself a b at
     (c.open_aside.ensures.any_moment modelled) (c.make_room.ensures.any_moment modelled sound))
 
@@ -107,7 +109,7 @@ returns-clause-durable g c modelled =
     let d = g.D.Disk in
     let b = c.make_room.new.self in
     let goes : b.journal.is_broken ≡ false = cc in
-    subst (λ (k : KeptState (KeepState g.row.D.Denot)). Only (d.seen k.keep.journal.disk) (d.may_leave k.keep.journal.disk))
+    subst (λ (k : KeptState (LogKeep g.row.D.Denot)). IsOpen k.keep (λ keep. Only (d.seen keep.journal.disk) (d.may_leave keep.journal.disk)))
     (sym c.new-kept.ensures)
     (subst (λ (j : JournalState g.row.D.Denot). IsReady d.known d.seen d.may_leave j) c.journal-2.ensures
     (c.is_steady.ensures modelled) goes).1.durable

@@ -1,7 +1,7 @@
 -- A batch is appended once there is room, or nothing is done.
 use Rattle.std.proofs.Common.{◌≡◌, ◌≤◌, inl, inr, false, refl, sym, ap, subst, ◌∙◌, arith, true≢false}
 use Rattle.reg_journal.specs.Lines.{said}
-use Rattle.reg_journal.specs.Refusals.{is_refusal}
+use Rattle.reg_journal.specs.Refusals.{HasCause, is_refusal}
 use Rattle.reg_pen.specs.declared.keep.Kept.{Kept}
 use Rattle.reg_pen.specs.declared.keep.Kept.TheVariants.{Taken, Declined}
 use Rattle.reg_pen.specs.declared.keep.Lack.TheVariants as lacks
@@ -11,7 +11,7 @@ use Rattle.reg_file_keep.specs.Next.{next_behind}
 use Rattle.reg_file_keep.specs.Upkeep.{state_of}
 use Rattle.reg_file_keep.specs.declared.upkeep.Upkeep.{Upkeep}
 use Rattle.reg_file_keep.proofs.Rooms.{at_any_moment, counts_same, ends_refused, error_of, floor_behind}
-use Rattle.reg_file_keep.proofs.Rooms.{floor_up, from_floor, leaves_same, reason_of}
+use Rattle.reg_file_keep.proofs.Rooms.{floor_up, from_floor, leaves_same, not_taken, reason_of}
 use Rattle.reg_file_keep.proofs.Rooms.{says_same, sound_of, stays_refused}
 use Rattle.reg_file_keep.proofs.keeping.FileKeepKeep.keep.Goals as goal
 
@@ -23,7 +23,7 @@ returns-then-not-can_stand g c =
     let batch = c.args.batch.now in
     let sound : old.is_broken ≡ false = cc in
     let laws = c.compactions_stand_for_logs.ensures in
-    subst (λ (k : KeepState g.row.D.Denot). KeepsFile d.is_modelled d.moment d.left_since d.may_leave d.seen d.faults g.D.Renewable.renewals k batch (Declined lacks.Numbers) k) c.self.view_is
+    subst (λ (k : KeepState g.row.D.Denot). KeepsFile d.is_modelled d.moment d.left_since d.may_leave d.seen d.faults g.D.Renewable.renewals d.named k batch (Declined lacks.Numbers) k) c.self.view_is
     (record {
       ends = (
         sound,
@@ -38,6 +38,7 @@ returns-then-not-can_stand g c =
           (c.is_steady.ensures modelled sound) batch
           (λ file left. g.met.D.Disk.only_now old.disk file (c.is_steady.ensures modelled sound).0 left);
       broken = λ is. absurd (true≢false (sym is ∙ sound));
+      has_name = λ modelled is. let none : ⊥ = cc in absurd none;
       reason = inl (λ both. let t = c.can_stand.ensures.1 both in cc);
       counts = refl;
       stays = c.self.invariant;
@@ -71,7 +72,7 @@ returns-in-Ok g c =
     let room = c.make_room.ensures in
     let mid_sound : mid.is_broken ≡ false = sound_of mid.is_broken c.append.result _ c.in-Ok.is (λ is. (c.append.ensures.broken is).0) in
     let can = c.can_stand.ensures.0 c.if-not-can_stand.false in
-    subst (λ (k : KeepState g.row.D.Denot). KeepsFile d.is_modelled d.moment d.left_since d.may_leave d.seen d.faults g.D.Renewable.renewals k batch Taken (state_of new then)) c.self.view_is
+    subst (λ (k : KeepState g.row.D.Denot). KeepsFile d.is_modelled d.moment d.left_since d.may_leave d.seen d.faults g.D.Renewable.renewals d.named k batch Taken (state_of new then)) c.self.view_is
     (record {
       ends = (
         c.in-Ok.ensures.goes_on,
@@ -89,6 +90,7 @@ returns-in-Ok g c =
           (room.any_moment modelled whole) (room.says modelled) (c.append.ensures.any_moment modelled)
           (λ is. (c.append.ensures.broken is).1);
       broken = λ is. absurd (true≢false (sym is ∙ sound));
+      has_name = λ modelled is. c.in-Ok.ensures.named modelled;
       reason = tt;
       counts = ap (λ (u : Upkeep). u.next) c.append-in-Ok.ensures ∙ ap (λ n. next_behind n batch) room.next;
       stays =
@@ -125,7 +127,7 @@ returns-in-Err g c =
     let new = c.append.new.self in
     let error = c.in-Err.error in
     let room = c.make_room.ensures in
-    let kept : KeepsFile d.is_modelled d.moment d.left_since d.may_leave d.seen d.faults g.D.Renewable.renewals (state_of old was) batch (kept_of error) (state_of new has) =
+    let kept : KeepsFile d.is_modelled d.moment d.left_since d.may_leave d.seen d.faults g.D.Renewable.renewals d.named (state_of old was) batch (kept_of error) (state_of new has) =
     record {
       ends = ends_refused d.moment d.left_since d.may_leave d.seen old mid new batch d.is_modelled
           error room.says c.in-Err.ensures.refused c.in-Err.ensures.then_broken
@@ -137,10 +139,12 @@ returns-in-Err g c =
           (room.any_moment modelled whole) (room.says modelled) (c.append.ensures.any_moment modelled)
           (λ is. (c.append.ensures.broken is).1);
       broken = λ is. absurd (true≢false (sym is ∙ sound));
-      reason = reason_of d.is_modelled d.faults g.D.Renewable.renewals (state_of old was) (state_of mid has) (state_of new has) batch error
-          c.in-Err.ensures.cause c.in-Err.ensures.refused (λ is. (c.append.ensures.broken is).1)
+      has_name = λ modelled is. absurd (not_taken error is);
+      reason = reason_of d.is_modelled d.faults g.D.Renewable.renewals d.named (state_of old was) (state_of mid has) (state_of new has) batch error
+          (subst (λ n. HasCause d.is_modelled d.faults d.named mid batch n error new) c.free_behind-free.ensures c.in-Err.ensures.cause)
+          c.in-Err.ensures.refused (λ is. (c.append.ensures.broken is).1)
           (λ modelled is. room.lost modelled sound is);
-      counts = room.next ∙ counts_same d.is_modelled d.faults g.D.Renewable.renewals (state_of old was) (state_of mid has) (state_of new has)
+      counts = room.next ∙ counts_same d.is_modelled d.faults g.D.Renewable.renewals d.named (state_of old was) (state_of mid has) (state_of new has)
           batch error was.next;
       stays =
           λ modelled.
@@ -159,5 +163,5 @@ returns-in-Err g c =
         record { patience = refl; floor = refl; fault = refl },
       );
     } in
-    subst (λ (k : KeepState g.row.D.Denot). KeepsFile d.is_modelled d.moment d.left_since d.may_leave d.seen d.faults g.D.Renewable.renewals k batch c.kept_of.result (state_of new has)) c.self.view_is
-    (subst (λ (k : Kept). KeepsFile d.is_modelled d.moment d.left_since d.may_leave d.seen d.faults g.D.Renewable.renewals (state_of old was) batch k (state_of new has)) (sym c.kept_of.ensures) kept)
+    subst (λ (k : KeepState g.row.D.Denot). KeepsFile d.is_modelled d.moment d.left_since d.may_leave d.seen d.faults g.D.Renewable.renewals d.named k batch c.kept_of.result (state_of new has)) c.self.view_is
+    (subst (λ (k : Kept). KeepsFile d.is_modelled d.moment d.left_since d.may_leave d.seen d.faults g.D.Renewable.renewals d.named (state_of old was) batch k (state_of new has)) (sym c.kept_of.ensures) kept)
