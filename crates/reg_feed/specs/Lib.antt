@@ -1,3 +1,3 @@
-pub mod Fronts
 pub mod Growing
+pub mod History
 pub mod Published

@@ -6,7 +6,7 @@ ghost use Rattle.reg_feed.specs.Growing.{grown};
 ghost use Rattle.reg_feed.specs.Published.{WasPublished};
 
 use crate::fold::Fold;
-use crate::front::FeedName;
+use crate::history::FeedName;
 use crate::stored::{Op, Stored};
 use crossbeam_utils::rule::Protocol;
 use left_right::Absorb;

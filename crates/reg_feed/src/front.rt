@@ -1,136 +1,47 @@
 // Fronts of a feed's one list, which its pending items are in too. Readers never get one.
-ghost use Rattle.std.specs.Prelude.{◌≡◌, ◌+◌, ◌<◌, ◌≤◌, ◌++◌, ◌∷◌, ◌⊎◌, [], length, IfSome, MatchBool};
+ghost use Rattle.std.specs.Prelude.{◌≡◌, ◌+◌, ◌^◌, ◌<◌, ◌≤◌, ◌++◌, ◌∷◌, ◌⊎◌, [], length, IfSome, MatchBool};
 ghost use mathlib.Core.List.{IsPrefix};
-ghost use Rattle.reg_feed.specs.Fronts.{head_of};
 
+use crate::entry::FeedEntry;
 use crate::fold::Fold;
-use logbook::{Gain, Offer, Plain, Play, Rule, Seen as Reached, Start, Word};
+use crate::history::{Add, FeedName, History, Law, Nothing};
+use logbook::{Offer, Seen as Reached};
 use std::collections::VecDeque;
 use std::marker::{Model, PhantomData};
-
-/// What holds of the word that counts the items: it is their number.
-pub struct Law;
-
-impl<T> Rule<T, u64> for Law {
-    ghost use Rattle.std.specs.Prelude.{[]};
-    ghost use base.Fml.{ftrue};
-    ghost use Rattle.reg_feed.specs.Fronts.{IsKept};
-
-    ghost holds = { λ cells log. IsKept cells log };
-
-    ghost first = { [] };
-
-    ghost hinted = { λ n log. Unit {0} };
-
-    ghost shows = { λ log. [] };
-
-    ghost keeps = { λ names log. ftrue };
-
-    ghost moves = { λ ask before after answer. Unit {0} };
-}
-
-/// Callers trade nothing.
-pub struct Nothing;
-
-impl<T> Gain<T, u64> for Nothing {
-    ghost use base.Fml.{ftrue};
-
-    ghost after = { λ names about answer. ftrue };
-}
-
-/// A step that adds an item.
-pub struct Add;
-
-impl<T> Play<T, u64> for Add {
-    ghost use Rattle.reg_feed.specs.Fronts.{Adds};
-
-    ghost then = { Adds };
-}
-
-/// What a step asks for: the item.
-impl<T> Plain<T, T, u64> for Add {
-    ghost use Rattle.std.specs.Prelude.{None};
-
-    ghost ask = { λ item. item };
-
-    ghost state = { λ item. None };
-}
-
-/// Which feed it is, and what its list begins to be folded from. Each call of a program picks both.
-pub trait FeedName<T, V: Fold<T>> {
-    ghost use Rattle.logbook.specs.Pages.{Book};
-
-    ghost book: { Book };
-
-    ghost first: { V };
-}
-
-/// A list without items, which has no name yet.
-#[derive(Drop)]
-pub struct Unnamed<T> {
-    head: Word<T, u64, Law>,
-    reached: Reached<T, u64, Law>,
-    pub ghost empty: { reached.log ≡ [] },
-    pub ghost head_is: { head ≡ head_of reached.book },
-}
-
-impl<T> Unnamed<T> {
-    pub fn new() -> Unnamed<T> {
-        let (reached, mut first, _second) = Reached::open(Start::alone(), 0, 0);
-        Unnamed {
-            head: Word::tracked(0, &mut first),
-            reached,
-        }
-    }
-
-    /// The word that counts the items, under a name, and the front that has none.
-    pub(crate) fn named<V: Fold<T>, N: FeedName<T, V>>(self) -> (History<T, V, N>, Front<T, V, N>)
-        requires { self.reached.book ≡ N.book }
-        ensures { result.1 ≡ [] }
-    {
-        let Unnamed { head, reached } = self;
-        (
-            History {
-                head,
-                of: PhantomData,
-            },
-            Front {
-                count: 0,
-                reached,
-                of: PhantomData,
-            },
-        )
-    }
-}
-
-/// The word that counts the items.
-#[derive(Drop)]
-pub struct History<T, V: Fold<T>, N: FeedName<T, V>> {
-    head: Word<T, u64, Law>,
-    of: PhantomData<(V, N)>,
-    ghost head_is: { head ≡ head_of N.book },
-}
 
 /// A front of the list of all items, published or pending. Contracts see it as its items; it holds none
 /// of them.
 #[derive(Drop)]
 pub struct Front<T, V: Fold<T>, N: FeedName<T, V>> {
-    count: u64,
-    reached: Reached<T, u64, Law>,
+    pub(crate) count: u64,
+    pub(crate) reached: Reached<FeedEntry<T>, u64, Law>,
     of: PhantomData<(V, N)>,
 }
 
 impl<T, V: Fold<T>, N: FeedName<T, V>> Model for Front<T, V, N> {
-    ghost use Rattle.std.specs.Prelude.{◌≡◌, List, length};
+    ghost use Rattle.std.specs.Prelude.{◌≡◌, ◌≤◌, ◌^◌, List, length};
+    ghost use Rattle.reg_feed.specs.History.{items_of};
 
     ghost Value = { List T };
 
-    ghost view = { λ f. f.reached.log };
+    ghost view = { λ f. items_of f.reached.log };
 
-    ghost invariant = { λ f. (f.count ≡ length f.reached.log) × (f.reached.book ≡ N.book) };
+    ghost invariant = { λ f. (f.count ≡ length (items_of f.reached.log)) × (f.reached.book ≡ N.book) × (f.count ≤ 2 ^ 62) };
 }
 
 impl<T, V: Fold<T>, N: FeedName<T, V>> Front<T, V, N> {
+    /// The front that has no item.
+    pub(crate) fn of_none(reached: Reached<FeedEntry<T>, u64, Law>) -> Front<T, V, N>
+        requires { (reached.book ≡ N.book) × (reached.log ≡ []) }
+        ensures { result ≡ [] }
+    {
+        Front {
+            count: 0,
+            reached,
+            of: PhantomData,
+        }
+    }
+
     /// How many items it has.
     pub fn len(&self) -> u64
         ensures { result ≡ length self.now }
@@ -179,11 +90,13 @@ impl<T, V: Fold<T>, N: FeedName<T, V>> Front<T, V, N> {
         ensures { MatchBool result (self.new ≡ self.old ++ item.now ∷ []) (self.new ≡ self.old) }
     {
         let count = self.count;
-        if count == u64::MAX {
+        if count >= 1 << 62 {
             return false;
         }
         let mut reached = self.reached.again();
-        let mut offer: Offer<T, u64, Law, Nothing> = reached.plain::<Nothing, T, Add>(item);
+        let mut offer: Offer<FeedEntry<T>, u64, Law, Nothing> = reached.plain::<Nothing, T, Add>(
+            item,
+        );
         let mut pen = reached.no_pen();
         let found = history
             .head

@@ -1,16 +1,17 @@
-// Fronts of a feed's list that readers were shown.
+// What a feed published, as readers were shown it.
 ghost use Rattle.std.specs.Prelude.{◌≡◌, ◌<◌, ◌⊎◌, length, MatchBool};
 ghost use mathlib.Core.List.{IsPrefix};
 ghost use Rattle.reg_feed.specs.Published.{WasPublished};
 
 use crate::fold::Fold;
-use crate::front::{FeedName, Front};
+use crate::history::FeedName;
+use crate::shown::Shown;
 use std::marker::Model;
 
 /// A list that a feed published. Contracts see it as its items; it holds none of them.
 #[derive(Drop)]
 pub struct Seen<T, V: Fold<T>, N: FeedName<T, V>> {
-    front: Front<T, V, N>,
+    shown: Shown<T, V, N>,
 }
 
 impl<T, V: Fold<T>, N: FeedName<T, V>> Model for Seen<T, V, N> {
@@ -19,37 +20,37 @@ impl<T, V: Fold<T>, N: FeedName<T, V>> Model for Seen<T, V, N> {
 
     ghost Value = { List T };
 
-    ghost view = { λ s. s.front };
+    ghost view = { λ s. s.shown };
 
-    ghost invariant = { λ s. WasPublished (V.publishes N.first) s.front };
+    ghost invariant = { λ s. WasPublished (V.publishes N.first) s.shown };
 }
 
 impl<T, V: Fold<T>, N: FeedName<T, V>> Seen<T, V, N> {
-    pub(crate) fn of(front: Front<T, V, N>) -> Seen<T, V, N>
-        requires { WasPublished (V.publishes N.first) front }
-        ensures { result ≡ front }
+    pub(crate) fn of(shown: Shown<T, V, N>) -> Seen<T, V, N>
+        requires { WasPublished (V.publishes N.first) shown }
+        ensures { result ≡ shown }
     {
-        Seen { front }
+        Seen { shown }
     }
 
-    pub(crate) fn front(&self) -> &Front<T, V, N>
+    pub(crate) fn shown(&self) -> &Shown<T, V, N>
         ensures { result.now ≡ self.now }
     {
-        &self.front
+        &self.shown
     }
 
     /// It was published. This costs nothing at run time.
     pub fn was_published(&self)
         ensures { WasPublished (V.publishes N.first) self.now }
     {
-        let _front = &self.front;
+        let _shown = &self.shown;
     }
 
     /// How many items it has.
     pub fn len(&self) -> u64
         ensures { result ≡ length self.now }
     {
-        self.front.len()
+        self.shown.len()
     }
 
     /// A copy.
@@ -57,7 +58,7 @@ impl<T, V: Fold<T>, N: FeedName<T, V>> Seen<T, V, N> {
         ensures { result ≡ self.now }
     {
         Seen {
-            front: self.front.again(),
+            shown: self.shown.again(),
         }
     }
 
@@ -65,7 +66,7 @@ impl<T, V: Fold<T>, N: FeedName<T, V>> Seen<T, V, N> {
     pub fn begins(&self, other: &Seen<T, V, N>) -> bool
         ensures { MatchBool result (IsPrefix self.now other.now) ((length other.now < length self.now) × IsPrefix other.now self.now) }
     {
-        self.front.begins(&other.front)
+        self.shown.begins(&other.shown)
     }
 
     /// The longer of two fronts, which begins with the other.

@@ -63,6 +63,24 @@ impl<S: Absorb<O> + Protocol<S, ()> + Drop, O: Drop, R: Wait + Drop> Shelf<S, O,
         })
     }
 
+    /// Shows readers each operation, as soon as there is memory.
+    pub(crate) fn publish_at_last(&mut self)
+        requires { (next : S) (views : List (Unit {0}))
+            → S.state next ≡ fold S.applied (S.state self.old.writer.desk.shown.value) (drop self.old.writer.behind self.old.writer.log.items)
+            → S.holds next views }
+        ensures { (S.state self.new.writer.desk.shown.value ≡ fold S.applied (S.state self.old.writer.desk.shown.value) (drop self.old.writer.behind self.old.writer.log.items)) × (drop self.new.writer.behind self.new.writer.log.items ≡ []) }
+    {
+        for _ in self.rt.forever() {
+            let shown = replace_with(&mut self.writer, &self.rt, |writer, rt| {
+                writer.publish_as::<Unruled, R>(rt)
+            });
+            if shown.is_ok() {
+                return;
+            }
+        }
+        unreachable!()
+    }
+
     /// `Err` where each place for a reader is found in use.
     pub(crate) fn reader(&self) -> Result<Reader<S, (), S>, AllocError>
         requires { (x : S) (views more : List (Unit {0})) → S.holds x views → S.holds x more }

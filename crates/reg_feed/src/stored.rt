@@ -4,11 +4,14 @@ ghost use Rattle.std.specs.Prelude.{◌≡◌, ◌++◌, ◌∷◌, [], List, On
 ghost use Rattle.reg_feed.specs.Growing.{grown};
 
 use crate::fold::Fold;
-use crate::front::{FeedName, Front};
+use crate::front::Front;
+use crate::history::{FeedName, History};
+use crate::shown::Shown;
 use crossbeam_utils::rule::Protocol;
 use left_right::Absorb;
 use std::alloc::AllocError;
 use std::marker::Model;
+use std::sync::Arc;
 
 /// What comes with a front: its last item, or what all of it folds to.
 #[derive(Drop)]
@@ -40,6 +43,9 @@ impl<T, V: Fold<T>, N: FeedName<T, V>> Model for Op<T, V, N> {
 pub struct Stored<T, V: Fold<T>, N: FeedName<T, V>> {
     value: V,
     front: Front<T, V, N>,
+    // What it knows to be published: the whole front, wherever readers are shown this copy.
+    shown: Shown<T, V, N>,
+    history: Arc<History<T, V, N>>,
 }
 
 impl<T, V: Fold<T>, N: FeedName<T, V>> Model for Stored<T, V, N> {
@@ -68,13 +74,14 @@ impl<T: Drop, V: Fold<T> + Drop, N: FeedName<T, V>> Absorb<Op<T, V, N>> for Stor
         other: &Stored<T, V, N>,
     ) -> Result<(), AllocError> {
         match &op.brought {
-            Brought::Item(item) => self.take(item, &op.front, &other.value),
+            Brought::Item(item) => self.take(item, &op.front, &other.value)?,
             Brought::Value(value) => {
                 let value = value.again()?;
                 self.put(value, op.front.again());
-                Ok(())
             }
         }
+        self.note(other);
+        Ok(())
     }
 
     // A value that was brought is this copy's: no other one is made. The other copy took an item before.
@@ -89,13 +96,11 @@ impl<T: Drop, V: Fold<T> + Drop, N: FeedName<T, V>> Absorb<Op<T, V, N>> for Stor
                 if self.take(&item, &front, &other.value).is_err() {
                     return Err(Op::of_item(item, front));
                 }
-                Ok(())
             }
-            Brought::Value(value) => {
-                self.put(value, front);
-                Ok(())
-            }
+            Brought::Value(value) => self.put(value, front),
         }
+        self.note(other);
+        Ok(())
     }
 }
 
@@ -133,13 +138,20 @@ impl<T, V: Fold<T>, N: FeedName<T, V>> Op<T, V, N> {
 }
 
 impl<T, V: Fold<T>, N: FeedName<T, V>> Stored<T, V, N> {
-    pub(crate) fn new(value: V, origin: &Front<T, V, N>) -> Stored<T, V, N>
+    pub(crate) fn new(
+        value: V,
+        origin: &Front<T, V, N>,
+        shown: Shown<T, V, N>,
+        history: Arc<History<T, V, N>>,
+    ) -> Stored<T, V, N>
         requires { (origin.now ≡ []) × (value ≡ N.first) }
         ensures { result ≡ [] }
     {
         Stored {
             value,
             front: origin.again(),
+            shown,
+            history,
         }
     }
 
@@ -153,6 +165,20 @@ impl<T, V: Fold<T>, N: FeedName<T, V>> Stored<T, V, N> {
         ensures { result.now ≡ self.now }
     {
         &self.front
+    }
+
+    pub(crate) fn shown(&self) -> &Shown<T, V, N> {
+        &self.shown
+    }
+
+    /// Publishes the front where just that is offered. Of another one it knows what the other copy knows.
+    fn note(&mut self, other: &Stored<T, V, N>)
+        ensures { self.new ≡ self.old }
+    {
+        self.shown = match Shown::with(&self.history, &self.front) {
+            Some(shown) => shown,
+            None => other.shown.again(),
+        };
     }
 }
 

@@ -1,12 +1,15 @@
 // The one writer of a feed.
 ghost use Rattle.std.specs.Prelude.{◌≡◌, ◌<◌, ◌^◌, ◌++◌, ◌∷◌, [], length, drop, fold, IfOk, OnErr, OnOk, MatchBool, MatchResult, None, option_to_list};
+ghost use mathlib.Core.List.{IsPrefix};
 ghost use Rattle.reg_feed.specs.Growing.{grown};
 ghost use Rattle.reg_feed.specs.Published.{WasPublished};
 
 use crate::copies::Copies;
 use crate::fold::Fold;
-use crate::front::{FeedName, Front, History, Unnamed};
+use crate::front::Front;
+use crate::history::{FeedName, History, Unnamed};
 use crate::reader::FeedReader;
+use crate::right::Right;
 use crate::seen::Seen;
 use crate::shelf::Shelf;
 use crate::stored::{Op, Stored};
@@ -15,7 +18,7 @@ use std::collections::VecDeque;
 use std::error::Error;
 use std::fmt;
 use std::marker::Model;
-use std::sync::Wait;
+use std::sync::{Arc, Wait};
 
 /// No reader can be made: each place for one is in use.
 #[derive(Clone, Copy, Debug, PartialEq, Eq)]
@@ -44,7 +47,9 @@ pub struct FeedWriter<
     S: Copies<T, V, N>,
     R: Wait + Drop,
 > {
-    history: History<T, V, N>,
+    history: Arc<History<T, V, N>>,
+    // What is published, and that nothing else is.
+    right: Right<T, V, N>,
     // The published items and the pending ones.
     whole: Front<T, V, N>,
     // No item.
@@ -64,7 +69,7 @@ impl<T: Drop, V: Fold<T> + Drop, N: FeedName<T, V>, S: Copies<T, V, N>, R: Wait 
 
     ghost view = { λ w. (S.list w.shelf.writer.desk.shown.value, drop (length (S.list w.shelf.writer.desk.shown.value)) w.whole) };
 
-    ghost invariant = { λ w. (w.origin ≡ []) × WasPublished (V.publishes N.first) (S.list w.shelf.writer.desk.shown.value) × GrowsTo (S.list w.shelf.writer.desk.shown.value) (drop w.shelf.writer.behind w.shelf.writer.log.items ++ option_to_list w.next) w.whole };
+    ghost invariant = { λ w. (w.origin ≡ []) × (w.right ≡ (S.list w.shelf.writer.desk.shown.value, S.list w.shelf.writer.desk.shown.value)) × WasPublished (V.publishes N.first) (S.list w.shelf.writer.desk.shown.value) × GrowsTo (S.list w.shelf.writer.desk.shown.value) (drop w.shelf.writer.behind w.shelf.writer.log.items ++ option_to_list w.next) w.whole };
 }
 
 /// A feed whose list has no item, with places for so many readers. The only error is out of memory.
@@ -81,13 +86,18 @@ pub fn feed<T: Drop, V: Fold<T> + Drop, N: FeedName<T, V>, R: Wait + Drop>(
 {
     let second = first.again()?;
     let (history, origin) = list.named::<V, N>();
-    let one = Stored::new(first, &origin);
-    let other = Stored::new(second, &origin);
+    let Some(right) = Right::new(&history, &origin) else {
+        return Err(AllocError);
+    };
+    let history = Arc::new(alloc, history)?;
+    let one = Stored::new(first, &origin, right.shown(), Arc::try_clone(&history)?);
+    let other = Stored::new(second, &origin, right.shown(), Arc::try_clone(&history)?);
     let shelf = Shelf::new(alloc, rt, one, other, readers)?;
     Ok(FeedWriter {
         history,
-        whole: origin.again(),
-        origin: Seen::of(origin),
+        origin: Seen::of(right.shown()),
+        right,
+        whole: origin,
         shelf,
         next: None,
     })
@@ -124,6 +134,18 @@ fn show<T: Drop, V: Fold<T> + Drop, N: FeedName<T, V>, S: Copies<T, V, N>, R: Wa
     ensures refused { OnErr result ((shelf.new.writer.desk.shown.value ≡ shelf.old.writer.desk.shown.value) × (drop shelf.new.writer.behind shelf.new.writer.log.items ≡ drop shelf.old.writer.behind shelf.old.writer.log.items)) }
 {
     shelf.publish()
+}
+
+/// Shows readers what is in the log of the copies, as soon as there is memory.
+fn show_at_last<T: Drop, V: Fold<T> + Drop, N: FeedName<T, V>, S: Copies<T, V, N>, R: Wait + Drop>(
+    shelf: &mut Shelf<S, Op<T, V, N>, R>,
+)
+    requires was { WasPublished (V.publishes N.first) (S.list shelf.old.writer.desk.shown.value) }
+    requires may { V.publishes N.first (fold grown (S.list shelf.old.writer.desk.shown.value) (drop shelf.old.writer.behind shelf.old.writer.log.items)) }
+    ensures published { WasPublished (V.publishes N.first) (S.list shelf.new.writer.desk.shown.value) }
+    ensures shown { (S.list (shelf.new.writer.desk.shown.value) ≡ fold grown (S.list (shelf.old.writer.desk.shown.value)) (drop shelf.old.writer.behind shelf.old.writer.log.items)) × (drop shelf.new.writer.behind shelf.new.writer.log.items ≡ []) }
+{
+    shelf.publish_at_last();
 }
 
 impl<T: Drop, V: Fold<T> + Drop, N: FeedName<T, V>, S: Copies<T, V, N>, R: Wait + Drop> FeedWriter<
@@ -175,14 +197,36 @@ impl<T: Drop, V: Fold<T> + Drop, N: FeedName<T, V>, S: Copies<T, V, N>, R: Wait 
         ensures refused { OnErr result (self.new ≡ self.old) }
     {
         hand_over(&mut self.shelf, &mut self.next)?;
-        show(&mut self.shelf)
+        if self.shelf.published().stored().front().len() >= self.whole.len() {
+            return show(&mut self.shelf);
+        }
+        self.right.offer(&self.history, &self.whole);
+        if show(&mut self.shelf).is_ok() {
+            self.right.publish(&self.history, &self.whole);
+            return Ok(());
+        }
+        if self.right.take_back(&self.history, &self.whole) {
+            return Err(AllocError);
+        }
+        // A copy publishes what is offered as the last step before readers are shown it.
+        show_at_last(&mut self.shelf);
+        Ok(())
+    }
+
+    /// Whoever saw or learnt of a list saw what is published here, or a beginning of it. The clauses of this
+    /// writer say when that grows.
+    pub fn covers(&mut self, seen: &Seen<T, V, N>)
+        ensures begins { IsPrefix seen.now self.old.0 }
+        ensures same { self.new ≡ self.old }
+    {
+        self.right.covers(&self.history, seen.shown());
     }
 
     /// The front that is the whole published list.
     pub fn tell(&self) -> Seen<T, V, N>
         ensures { result ≡ self.now.0 }
     {
-        Seen::of(self.shelf.published().stored().front().again())
+        Seen::of(self.right.shown())
     }
 
     /// What the published list folds to.

@@ -174,6 +174,14 @@ impl<
         }
     }
 
+    /// Whoever saw or learnt of a list of this node, as its views do, saw what it published, or a beginning of it.
+    pub fn covers(&mut self, seen: &Seen<Draw, Taken, M>)
+        ensures begins { IsPrefix seen.now self.old.1.0 }
+        ensures same { self.new ≡ self.old }
+    {
+        self.out.covers(seen);
+    }
+
     /// A view of the node. It may be refused at any call.
     pub fn view(&mut self) -> Result<View<M, U>, NoPlace>
         ensures new { IfOk result (λ v. v ≡ []) }

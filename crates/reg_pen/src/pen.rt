@@ -324,6 +324,15 @@ impl<N: FeedName<Item, Shared>, S: Copies<Item, Shared, N>, K: Keep + Drop, R: W
         self.writer.reader()
     }
 
+    /// Whoever saw or learnt of a list of the topic saw what this pen published, or a beginning of it: no batch that is pending,
+    /// declined or lost. The clauses of the pen say when that list grows.
+    pub fn covers(&mut self, seen: &Seen<Item, Shared, N>)
+        ensures begins { IsPrefix seen.now self.old.published }
+        ensures same { self.new ≡ self.old }
+    {
+        self.writer.covers(seen);
+    }
+
     pub fn keep(&self) -> &K
         ensures { result.now ≡ self.now.keep }
     {
