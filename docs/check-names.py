@@ -28,7 +28,7 @@ CITING = [f"{name}.md" for name in "DEFINITIONS LAYERS CLAIMS HEADLINE READING K
 # What looks like a name of the code and isn't one. What has another form, as a command or `x.now`, or one or two letters is passed over.
 OTHER = set("""
     Ok Err None Some Option Result Box Write BufRead Serialize RandomState impl match let else use while unsafe ghost requires ensures
-    IfOk IfErr IfSome OnOk OnErr Brand Absorb matchit http httparse serde_json clap null stdin stdout library result READONLY_OVERRIDE Old
+    IfOk IfErr IfSome OnOk OnErr Brand Absorb matchit http httparse serde_json clap null stdin stdout library result READONLY_OVERRIDE EIO Old
     Key::X Value::X crates/NAME crates/NAME/wrong/ must-fail/ wrong/ specs/ proofs/ data/ out/ out/NAME.log out/NAME.not-proved exec client_max_body_size
 """.split())
 # A name that public items of several crates share, and why it stays. None does today.

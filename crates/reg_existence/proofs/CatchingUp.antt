@@ -6,9 +6,9 @@ use Rattle.std.specs.FinSet.{IsAntisymmetric, contains, contains-from_list, cont
 use Rattle.std.specs.List.{list_all, list_any}
 use Rattle.std.specs.Option.{option_map_or}
 use Rattle.std.specs.Ordering.{eq_by_cmp, is_eq}
-use Rattle.reg_records.specs.declared.record.Record.{Record}
-use Rattle.reg_set.specs.RecordOrder.{record_cmp}
-use Rattle.reg_set.specs.Records.{Records}
+use Rattle.reg_leader.specs.reg_records.declared.record.Record.{Record}
+use Rattle.reg_leader.specs.reg_set.RecordOrder.{record_cmp}
+use Rattle.reg_leader.specs.reg_set.Records.{Records}
 use Rattle.reg_floored.specs.Floored.{Floored}
 use Rattle.reg_topic.specs.Topic.{whole_log}
 use Rattle.reg_world.specs.Happens.{Happens, floors_agree, is_allowed}

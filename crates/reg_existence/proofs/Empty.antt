@@ -1,18 +1,18 @@
 -- The topic without a record is adopted: nothing in it is closed.
 use Rattle.std.proofs.Common.{◌≡◌, true, false, ◌||◌, is_some, Some, None, Contains, refl, sym, ◌∙◌, ap, arith}
 use Rattle.std.specs.FinSet.{contains-empty, empty}
-use Rattle.reg_records.specs.declared.key.Key.{Key}
-use Rattle.reg_records.specs.declared.key.Key.TheVariants as keys
-use Rattle.reg_records.specs.declared.record.Record.{Record}
-use Rattle.reg_set.specs.Join.{LastIsGreatest}
-use Rattle.reg_set.specs.LastRecords.{last, last_records}
-use Rattle.reg_set.specs.RecordOrder.{record_cmp}
-use Rattle.reg_set.specs.Records.{Records}
-use Rattle.reg_entries.specs.TwoSchemas.{NoneIsOneTextEach}
-use Rattle.reg_entries.specs.declared.entry.Entry.{Entry}
-use Rattle.reg_fold.specs.Closed.{is_closed, two_schemas}
-use Rattle.reg_fold.specs.Entries.{EntriesAreOfPlaces, entries}
-use Rattle.reg_fold.specs.Opaque.{NoneIsNoOpaqueLast, opaque}
+use Rattle.reg_leader.specs.reg_records.declared.key.Key.{Key}
+use Rattle.reg_leader.specs.reg_records.declared.key.Key.TheVariants as keys
+use Rattle.reg_leader.specs.reg_records.declared.record.Record.{Record}
+use Rattle.reg_leader.specs.reg_set.Join.{LastIsGreatest}
+use Rattle.reg_leader.specs.reg_set.LastRecords.{last, last_records}
+use Rattle.reg_leader.specs.reg_set.RecordOrder.{record_cmp}
+use Rattle.reg_leader.specs.reg_set.Records.{Records}
+use Rattle.reg_leader.specs.reg_entries.TwoSchemas.{NoneIsOneTextEach}
+use Rattle.reg_leader.specs.reg_entries.declared.entry.Entry.{Entry}
+use Rattle.reg_leader.specs.reg_fold.Closed.{is_closed, two_schemas}
+use Rattle.reg_leader.specs.reg_fold.Entries.{EntriesAreOfPlaces, entries}
+use Rattle.reg_leader.specs.reg_fold.Opaque.{NoneIsNoOpaqueLast, opaque}
 use Rattle.reg_existence.specs.Events.{EmptyTopicIsAdopted}
 
 no_records : Records

@@ -1,7 +1,7 @@
 -- An event happens, and a list of events leads somewhere.
 use Rattle.std.proofs.Common.{◌≡◌, ℕ, List, [], ◌∷◌, Bool, true, false, MatchBool, refl, sym, subst}
 use Rattle.std.specs.FinSet.{from_list}
-use Rattle.reg_set.specs.LastRecords.{last_records}
+use Rattle.reg_leader.specs.reg_set.LastRecords.{last_records}
 use Rattle.reg_leader.specs.declared.command.Command.{Command}
 use Rattle.reg_topic.specs.Topic.{registry_of}
 use Rattle.reg_topic.specs.declared.published.Item.TheVariants as items

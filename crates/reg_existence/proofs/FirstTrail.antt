@@ -1,7 +1,7 @@
 -- Of the trails of one length the first, where there is one.
 use Rattle.std.proofs.Common.{◌≡◌, ℕ, zero, suc, List, [], ◌∷◌, length, ◌⊎◌, inl, inr, Option, Some}
 use Rattle.std.proofs.Common.{None, IsSome, option_map, option_and_then, slice_get, refl, ap, arith}
-use Rattle.avro_schema.specs.declared.node.Node.{Node}
+use Rattle.avro_resolve.specs.avro_schema.declared.node.Node.{Node}
 use Rattle.avro_resolve.specs.declared.trail.ClashKind.{ClashKind}
 use Rattle.avro_resolve.specs.declared.trail.Trail.{Trail}
 use Rattle.avro_resolve.specs.declared.obligations.Pair.{Pair}

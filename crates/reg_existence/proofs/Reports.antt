@@ -4,11 +4,11 @@ use Rattle.std.proofs.lemmas.List.Elements.{All-nil, All-cons}
 use Rattle.avro_resolve.specs.declared.resolving.Verdict.{Verdict}
 use Rattle.avro_resolve.specs.declared.resolving.Verdict.TheVariants.{Compatible, Clash}
 use Rattle.avro_resolve.specs.Verdict.{IsVerdict}
-use Rattle.reg_levels.specs.LevelVerdict.{IsCompatible, IsVerdictOn, failed, passed}
-use Rattle.reg_levels.specs.Message.{clash_message, message_of}
-use Rattle.reg_levels.specs.RequiredPairs.{Required, required_pairs}
-use Rattle.reg_levels.specs.Texts.{nodes_in, versions_in}
-use Rattle.reg_levels.specs.declared.verdict.LevelVerdict.{LevelVerdict}
+use Rattle.reg_leader.specs.reg_levels.LevelVerdict.{IsCompatible, IsVerdictOn, failed, passed}
+use Rattle.reg_leader.specs.reg_levels.Message.{clash_message, message_of}
+use Rattle.reg_leader.specs.reg_levels.RequiredPairs.{Required, required_pairs}
+use Rattle.reg_leader.specs.reg_levels.Texts.{nodes_in, versions_in}
+use Rattle.reg_leader.specs.reg_levels.declared.verdict.LevelVerdict.{LevelVerdict}
 use Rattle.reg_existence.specs.Verdicts.{LevelVerdictsExist, ReportsExist, VerdictsExist}
 
 -- all pairs are compatible, and the verdict says so

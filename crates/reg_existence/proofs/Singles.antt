@@ -4,7 +4,7 @@ use Rattle.reg_leader.specs.OneStep.{StepsAreSingle}
 use Rattle.reg_leader.specs.declared.command.Command.{Command}
 use Rattle.reg_topic.specs.Topic.{registry_of}
 use Rattle.reg_lookup.specs.Answers.{HaveOneAnswer}
-use Rattle.reg_set.specs.LastRecords.{last_records}
+use Rattle.reg_leader.specs.reg_set.LastRecords.{last_records}
 use Rattle.reg_world.specs.Happens.{Does, Happens, Steps, floors_agree, is_allowed, told, with_batch}
 use Rattle.reg_world.specs.Runs.{Runs}
 use Rattle.reg_world.specs.State.{State, set_at, settled, topic_of}

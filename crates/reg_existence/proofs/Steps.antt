@@ -1,14 +1,14 @@
 -- A command steps, and a query is answered.
 use Rattle.std.proofs.Common.{ℕ, suc, ◌+◌, List, [], length, nat_le, Bool, Option, Some, None, Result, Ok, Err, inl, inr, refl}
-use Rattle.reg_level_names.specs.declared.level.Level.{Level}
-use Rattle.reg_levels.specs.Texts.{VersionText}
-use Rattle.reg_records.specs.declared.limits.TheConstants.{OFFSET_LIMIT}
-use Rattle.reg_records.specs.declared.record.Record.{Record}
-use Rattle.reg_refusals.specs.declared.refusal.Refusal.{Refusal}
-use Rattle.reg_fold.specs.Entries.{entries}
-use Rattle.reg_fold.specs.InForce.{level}
-use Rattle.reg_rules.specs.Report.{IsReport}
-use Rattle.reg_rules.specs.Writings.{numbered}
+use Rattle.reg_leader.specs.reg_level_names.declared.level.Level.{Level}
+use Rattle.reg_leader.specs.reg_levels.Texts.{VersionText}
+use Rattle.reg_leader.specs.reg_records.declared.limits.TheConstants.{OFFSET_LIMIT}
+use Rattle.reg_leader.specs.reg_records.declared.record.Record.{Record}
+use Rattle.reg_leader.specs.reg_refusals.declared.refusal.Refusal.{Refusal}
+use Rattle.reg_leader.specs.reg_fold.Entries.{entries}
+use Rattle.reg_leader.specs.reg_fold.InForce.{level}
+use Rattle.reg_leader.specs.reg_rules.Report.{IsReport}
+use Rattle.reg_leader.specs.reg_rules.Writings.{numbered}
 use Rattle.reg_leader.specs.Course.{Course, Refused, Does, IfMet, IsOutcome, if_offsets_last, incompatible}
 use Rattle.reg_leader.specs.Step.{IsStep, course_of}
 use Rattle.reg_leader.specs.declared.reply.Reply.{Reply}
@@ -17,8 +17,8 @@ use Rattle.reg_lookup.specs.Bodies.{answer_with, check_body}
 use Rattle.reg_lookup.specs.Checked.{TellsVerdict, asked}
 use Rattle.reg_lookup.specs.declared.answered.Answer.{Answer}
 use Rattle.reg_lookup.specs.declared.query.Query.TheVariants as queries
-use Rattle.reg_levels.specs.Message.{message_of}
-use Rattle.reg_levels.specs.Texts.{nodes_in, versions_in}
+use Rattle.reg_leader.specs.reg_levels.Message.{message_of}
+use Rattle.reg_leader.specs.reg_levels.Texts.{nodes_in, versions_in}
 use Rattle.reg_existence.specs.Steps.{AnswersExist, StepsExist}
 use Rattle.reg_existence.specs.Verdicts.{LevelVerdictsExist, ReportsExist}
 

@@ -1,7 +1,7 @@
 -- There is a verdict on each two schemas.
 use Rattle.std.proofs.Common.{◌≡◌, ◌+◌, ◌<◌, ℕ, zero, suc, List, length, Bool, true, false, ◌⊎◌}
 use Rattle.std.proofs.Common.{inl, inr, Option, Some, None, IsSome, refl, sym, ◌∙◌, arith}
-use Rattle.avro_schema.specs.declared.node.Node.{Node}
+use Rattle.avro_resolve.specs.avro_schema.declared.node.Node.{Node}
 use Rattle.avro_resolve.specs.declared.resolving.Verdict.{Verdict}
 use Rattle.avro_resolve.specs.declared.resolving.Verdict.TheVariants.{Compatible, Clash}
 use Rattle.avro_resolve.specs.declared.trail.Trail.{Trail}

@@ -1,14 +1,14 @@
 -- Two schemas have a verdict, and a check of a level has a report, whatever is asked.
 use Rattle.std.specs.Prelude.{ℕ, List, Option}
-use Rattle.avro_schema.specs.declared.node.Node.{Node}
+use Rattle.avro_resolve.specs.avro_schema.declared.node.Node.{Node}
 use Rattle.avro_resolve.specs.declared.resolving.Verdict.{Verdict}
 use Rattle.avro_resolve.specs.Verdict.{IsVerdict}
-use Rattle.reg_level_names.specs.declared.level.Level.{Level}
-use Rattle.reg_levels.specs.LevelVerdict.{IsLevelVerdict}
-use Rattle.reg_levels.specs.RequiredPairs.{Version}
-use Rattle.reg_levels.specs.Texts.{VersionText}
-use Rattle.reg_levels.specs.declared.verdict.LevelVerdict.{LevelVerdict}
-use Rattle.reg_rules.specs.Report.{IsReport}
+use Rattle.reg_leader.specs.reg_level_names.declared.level.Level.{Level}
+use Rattle.reg_leader.specs.reg_levels.LevelVerdict.{IsLevelVerdict}
+use Rattle.reg_leader.specs.reg_levels.RequiredPairs.{Version}
+use Rattle.reg_leader.specs.reg_levels.Texts.{VersionText}
+use Rattle.reg_leader.specs.reg_levels.declared.verdict.LevelVerdict.{LevelVerdict}
+use Rattle.reg_leader.specs.reg_rules.Report.{IsReport}
 
 -- the schemas are compatible, or a trail to a clash is shown
 abbrev pub VerdictsExist : Type 0

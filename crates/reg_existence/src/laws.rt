@@ -5,10 +5,10 @@ ghost use Rattle.reg_existence.specs.Events.{EmptyTopicIsAdopted, EventsAreSingl
 ghost use Rattle.reg_existence.specs.Steps.{AnswersExist, StepsExist};
 ghost use Rattle.reg_existence.specs.Verdicts.{LevelVerdictsExist, ReportsExist, VerdictsExist};
 
-use reg_fold::{entries_are_of_places, none_is_no_opaque_last, two_schemas_is_least};
+use reg_leader::reg_fold::{entries_are_of_places, none_is_no_opaque_last, two_schemas_is_least};
+use reg_leader::reg_set::{last_is_greatest, records_are_ordered};
 use reg_leader::steps_are_single;
 use reg_lookup::queries_have_one_answer;
-use reg_set::{last_is_greatest, records_are_ordered};
 use reg_world::caught_up_nodes_answer_as_the_log;
 
 /// Two schemas are compatible, or a trail to a clash is shown; each level has a verdict on them.

@@ -9,15 +9,15 @@ use Rattle.std.specs.Ordering.{eq_by_cmp}
 use Rattle.reg_alike.specs.AnswerAlike.{AlikeAnswersAlike}
 use Rattle.reg_alike.specs.GiveAlike.{CompactionsGiveAlike}
 use Rattle.reg_alike.specs.StepAlike.{StepsAlike}
-use Rattle.reg_fold.specs.GiveAlike.{GiveAlike, GivingAlikeComposes, GivingAlikeIsSymmetric}
-use Rattle.reg_records.specs.declared.record.Record.{Record}
-use Rattle.reg_set.specs.LastRecords.{last_records}
-use Rattle.reg_set.specs.RecordOrder.{record_cmp}
-use Rattle.reg_set.specs.Records.{Records}
-use Rattle.reg_floored.specs.Compaction.{IsCompactionOf}
-use Rattle.reg_floored.specs.Laws.{LaterRecordsMayJoin}
-use Rattle.reg_leader.specs.OneStep.{BatchesGoOn}
-use Rattle.reg_lookup.specs.Answers.{HaveOneAnswer}
+use Rattle.reg_alike.specs.reg_fold.GiveAlike.{GiveAlike, GivingAlikeComposes, GivingAlikeIsSymmetric}
+use Rattle.reg_alike.specs.reg_records.declared.record.Record.{Record}
+use Rattle.reg_alike.specs.reg_set.LastRecords.{last_records}
+use Rattle.reg_alike.specs.reg_set.RecordOrder.{record_cmp}
+use Rattle.reg_alike.specs.reg_set.Records.{Records}
+use Rattle.reg_alike.specs.reg_floored.Compaction.{IsCompactionOf}
+use Rattle.reg_alike.specs.reg_floored.Laws.{LaterRecordsMayJoin}
+use Rattle.reg_alike.specs.reg_leader.OneStep.{BatchesGoOn}
+use Rattle.reg_alike.specs.reg_lookup.Answers.{HaveOneAnswer}
 use Rattle.reg_topic.specs.Laws.{CommitsFollow, LogIsWhatWasPublished}
 use Rattle.reg_topic.specs.Topic.{published_by}
 use Rattle.reg_processes.specs.Laws.{AnswersAreOfTheWhole, LogsAreCompactions, RegistriesGiveTheWhole, SameLogsAnswerAlike, SameLogsGiveAlike, SameLogsStepAlike, StepsAreOfTheWhole}

@@ -4,7 +4,7 @@ use Rattle.std.proofs.Common.{ap, subst, ◌∙◌, arith}
 use Rattle.std.proofs.lemmas.List.{append-nil, append_assoc, length-append, nil_from_length}
 use Rattle.std.specs.List.{flat_map}
 use mathlib.Core.List.{IsPrefix}
-use Rattle.reg_records.specs.declared.record.Record.{Record}
+use Rattle.reg_alike.specs.reg_records.declared.record.Record.{Record}
 use Rattle.reg_topic.specs.Laws.{LawfulListsJoin}
 use Rattle.reg_topic.specs.Topic.{IsLawful, published_by}
 use Rattle.reg_topic.specs.declared.published.Item.{Item}

@@ -1,6 +1,6 @@
 -- The definitions on a small chain: two batches and a compaction between them, by a process whose base stands for the first batch.
 use Rattle.std.proofs.Common.{◌≡◌, [], ◌∷◌, refl}
-use Rattle.reg_records.specs.declared.record.Record.{Record}
+use Rattle.reg_alike.specs.reg_records.declared.record.Record.{Record}
 use Rattle.reg_topic.specs.declared.published.Commit.{Commit}
 use Rattle.reg_topic.specs.declared.published.Compaction.{Compaction}
 use Rattle.reg_topic.specs.declared.published.Item.TheVariants as items

@@ -4,19 +4,19 @@ use Rattle.std.proofs.lemmas.List.{append-nil}
 use Rattle.std.specs.Cmp.{IsTotalOrder}
 use Rattle.std.specs.FinSet.{contains, from_list, items, IsAntisymmetric, contains-from_list, contains-items, same_set}
 use Rattle.reg_alike.specs.GiveAlike.{CompactionsGiveAlike}
-use Rattle.reg_entries.specs.Sought as sought
-use Rattle.reg_fold.specs.Closed.{is_closed}
-use Rattle.reg_fold.specs.Entries.{entries}
-use Rattle.reg_fold.specs.GiveAlike.{GiveAlike}
-use Rattle.reg_fold.specs.Opaque.{opaque}
-use Rattle.reg_set.specs.Compaction.{IsCompactionBelow}
-use Rattle.reg_set.specs.LastRecords.{last_records}
-use Rattle.reg_set.specs.RecordOrder.{record_cmp}
-use Rattle.reg_set.specs.Records.{Records}
-use Rattle.reg_floored.specs.Compaction.{IsCompactionOf}
-use Rattle.reg_floored.specs.Laws.{CompactionsCompose, EachIsItsOwnCompaction}
-use Rattle.reg_leader.specs.OneStep.{BatchesGoOn}
-use Rattle.reg_leader.specs.StayOpen.{StepsStayOpen}
+use Rattle.reg_alike.specs.reg_entries.Sought as sought
+use Rattle.reg_alike.specs.reg_fold.Closed.{is_closed}
+use Rattle.reg_alike.specs.reg_fold.Entries.{entries}
+use Rattle.reg_alike.specs.reg_fold.GiveAlike.{GiveAlike}
+use Rattle.reg_alike.specs.reg_fold.Opaque.{opaque}
+use Rattle.reg_alike.specs.reg_set.Compaction.{IsCompactionBelow}
+use Rattle.reg_alike.specs.reg_set.LastRecords.{last_records}
+use Rattle.reg_alike.specs.reg_set.RecordOrder.{record_cmp}
+use Rattle.reg_alike.specs.reg_set.Records.{Records}
+use Rattle.reg_alike.specs.reg_floored.Compaction.{IsCompactionOf}
+use Rattle.reg_alike.specs.reg_floored.Laws.{CompactionsCompose, EachIsItsOwnCompaction}
+use Rattle.reg_alike.specs.reg_leader.OneStep.{BatchesGoOn}
+use Rattle.reg_alike.specs.reg_leader.StayOpen.{StepsStayOpen}
 use Rattle.reg_topic.specs.Laws.{CommitsFollow, FloorsRise, FloorsStayBelow, KeptStaysCompaction}
 use Rattle.reg_topic.specs.Topic.{IsAdopted, registry_of, whole_log}
 use Rattle.reg_topic.specs.declared.topic.Topic.{Topic}

@@ -3,15 +3,15 @@ use Rattle.std.proofs.Common.{◌≡◌, inl, inr, ℕ, zero, suc, ◌+◌, ◌-
 use Rattle.std.proofs.lemmas.List.{length-append}
 use Rattle.std.specs.Cmp.{IsTotalOrder}
 use Rattle.std.specs.FinSet.{IsAntisymmetric}
-use Rattle.reg_entries.specs.declared.entry.Entry.{Entry}
-use Rattle.reg_fold.specs.Entries.{entries}
-use Rattle.reg_fold.specs.GiveAlike.{GiveAlike}
-use Rattle.reg_records.specs.declared.record.Record.{Record}
-use Rattle.reg_set.specs.RecordOrder.{record_cmp}
-use Rattle.reg_set.specs.Records.{Records}
-use Rattle.reg_leader.specs.GivenIds.{EntriesHaveGivenIds, IsGiven, StepsKeepGivenIds}
-use Rattle.reg_leader.specs.OneStep.{BatchesGoOn}
-use Rattle.reg_leader.specs.StayOpen.{StepsStayOpen}
+use Rattle.reg_alike.specs.reg_entries.declared.entry.Entry.{Entry}
+use Rattle.reg_alike.specs.reg_fold.Entries.{entries}
+use Rattle.reg_alike.specs.reg_fold.GiveAlike.{GiveAlike}
+use Rattle.reg_alike.specs.reg_records.declared.record.Record.{Record}
+use Rattle.reg_alike.specs.reg_set.RecordOrder.{record_cmp}
+use Rattle.reg_alike.specs.reg_set.Records.{Records}
+use Rattle.reg_alike.specs.reg_leader.GivenIds.{EntriesHaveGivenIds, IsGiven, StepsKeepGivenIds}
+use Rattle.reg_alike.specs.reg_leader.OneStep.{BatchesGoOn}
+use Rattle.reg_alike.specs.reg_leader.StayOpen.{StepsStayOpen}
 use Rattle.reg_topic.specs.Laws.{CommitsFollow, LawfulListsJoin, ListsAreFoldedInTurn}
 use Rattle.reg_topic.specs.Topic.{IsLawful, after_items, registry_of}
 use Rattle.reg_topic.specs.declared.published.Item.{Item}

@@ -6,13 +6,13 @@ use Rattle.std.proofs.lemmas.List.Folds.{list_any-append}
 use Rattle.std.specs.Cmp.{IsTotalOrder}
 use Rattle.std.specs.FinSet.{contains, from_list, union, IsAntisymmetric, contains-from_list, contains-union}
 use Rattle.std.specs.Ordering.{eq_by_cmp}
-use Rattle.reg_fold.specs.Closed.{is_closed}
-use Rattle.reg_records.specs.declared.record.Record.{Record}
-use Rattle.reg_set.specs.LastRecords.{last_records}
-use Rattle.reg_set.specs.RecordOrder.{record_cmp}
-use Rattle.reg_leader.specs.GivenIds.{AreBelow, IsGiven, StepsKeepGivenIds}
-use Rattle.reg_leader.specs.OneStep.{BatchesGoOn, goes_on}
-use Rattle.reg_leader.specs.StayOpen.{StepsStayOpen}
+use Rattle.reg_alike.specs.reg_fold.Closed.{is_closed}
+use Rattle.reg_alike.specs.reg_records.declared.record.Record.{Record}
+use Rattle.reg_alike.specs.reg_set.LastRecords.{last_records}
+use Rattle.reg_alike.specs.reg_set.RecordOrder.{record_cmp}
+use Rattle.reg_alike.specs.reg_leader.GivenIds.{AreBelow, IsGiven, StepsKeepGivenIds}
+use Rattle.reg_alike.specs.reg_leader.OneStep.{BatchesGoOn, goes_on}
+use Rattle.reg_alike.specs.reg_leader.StayOpen.{StepsStayOpen}
 use Rattle.reg_topic.specs.Laws.{CommitsFollow}
 use Rattle.reg_topic.specs.Topic.{IsAdopted, IsLawful, MayCommit, MayFollow, after_batch, after_compaction, after_item, after_items}
 use Rattle.reg_topic.specs.Topic.{may_compact, published_by, records_of_item, registry_of}

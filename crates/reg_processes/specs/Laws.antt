@@ -3,18 +3,18 @@ use Rattle.std.specs.Prelude.{◌≡◌, ◌<◌, ◌≤◌, ◌↔◌, ℕ, len
 use Rattle.std.specs.FinSet.{items}
 use Rattle.std.specs.List.{Contains}
 use mathlib.Core.List.{IsPrefix}
-use Rattle.reg_entries.specs.declared.entry.Entry.{Entry}
-use Rattle.reg_fold.specs.Entries.{entries}
-use Rattle.reg_fold.specs.GiveAlike.{GiveAlike}
-use Rattle.reg_records.specs.declared.record.Record.{Record}
-use Rattle.reg_set.specs.LastRecords.{last_records}
-use Rattle.reg_floored.specs.Compaction.{IsCompactionOf}
-use Rattle.reg_leader.specs.Step.{IsStep}
-use Rattle.reg_leader.specs.declared.command.Command.{Command}
-use Rattle.reg_leader.specs.declared.reply.Reply.{Reply}
-use Rattle.reg_lookup.specs.Answers.{IsAnswer, IsAnswerOver}
-use Rattle.reg_lookup.specs.declared.answered.Answer.{Answer}
-use Rattle.reg_lookup.specs.declared.query.Query.{Query}
+use Rattle.reg_alike.specs.reg_entries.declared.entry.Entry.{Entry}
+use Rattle.reg_alike.specs.reg_fold.Entries.{entries}
+use Rattle.reg_alike.specs.reg_fold.GiveAlike.{GiveAlike}
+use Rattle.reg_alike.specs.reg_records.declared.record.Record.{Record}
+use Rattle.reg_alike.specs.reg_set.LastRecords.{last_records}
+use Rattle.reg_alike.specs.reg_floored.Compaction.{IsCompactionOf}
+use Rattle.reg_alike.specs.reg_leader.Step.{IsStep}
+use Rattle.reg_alike.specs.reg_leader.declared.command.Command.{Command}
+use Rattle.reg_alike.specs.reg_leader.declared.reply.Reply.{Reply}
+use Rattle.reg_alike.specs.reg_lookup.Answers.{IsAnswer, IsAnswerOver}
+use Rattle.reg_alike.specs.reg_lookup.declared.answered.Answer.{Answer}
+use Rattle.reg_alike.specs.reg_lookup.declared.query.Query.{Query}
 use Rattle.reg_topic.specs.Topic.{IsAdopted, IsLawful}
 use Rattle.reg_topic.specs.declared.published.Item.{Item}
 use Rattle.reg_topic.specs.declared.topic.Topic.{Topic}

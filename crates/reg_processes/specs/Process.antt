@@ -4,10 +4,10 @@ use Rattle.std.specs.Prelude.{List, [], ◌∷◌, ◌++◌}
 use Rattle.std.specs.FinSet.{from_list}
 use Rattle.std.specs.List.{flat_map}
 use mathlib.Core.List.{IsPrefix}
-use Rattle.reg_records.specs.declared.record.Record.{Record}
-use Rattle.reg_set.specs.Records.{Records}
-use Rattle.reg_floored.specs.Compaction.{IsCompactionOf}
-use Rattle.reg_floored.specs.Floored.{Floored}
+use Rattle.reg_alike.specs.reg_records.declared.record.Record.{Record}
+use Rattle.reg_alike.specs.reg_set.Records.{Records}
+use Rattle.reg_alike.specs.reg_floored.Compaction.{IsCompactionOf}
+use Rattle.reg_alike.specs.reg_floored.Floored.{Floored}
 use Rattle.reg_topic.specs.Topic.{IsAdopted, IsLawful, after_items, registry_of}
 use Rattle.reg_topic.specs.declared.published.Item.{Item}
 use Rattle.reg_topic.specs.declared.published.Item.TheVariants as published

@@ -2,12 +2,12 @@
 // needs a law calls it.
 ghost use Rattle.reg_processes.specs.Laws.{AnswersAreOfTheWhole, FrontsTakePart, IdsAreForTwo, KeptSetsBegin, LawfulListsTakePart, LogsAreCompactions, NoIdNamesTwoSchemas, RegistriesGiveTheWhole, SameLogsAnswerAlike, SameLogsGiveAlike, SameLogsGiveSameBytes, SameLogsStepAlike, StepsAreOfTheWhole};
 
+use reg_alike::reg_floored::{compactions_compose, compactions_unite};
+use reg_alike::reg_fold::giving_alike_is_an_equivalence;
+use reg_alike::reg_leader::{batches_go_on, steps_keep_given_ids, steps_stay_open};
+use reg_alike::reg_lookup::queries_have_one_answer;
+use reg_alike::reg_set::records_are_ordered;
 use reg_alike::{alike_answers_alike, alike_steps_alike, compactions_give_alike};
-use reg_floored::{compactions_compose, compactions_unite};
-use reg_fold::giving_alike_is_an_equivalence;
-use reg_leader::{batches_go_on, steps_keep_given_ids, steps_stay_open};
-use reg_lookup::queries_have_one_answer;
-use reg_set::records_are_ordered;
 use reg_topic::{
     commits_follow, floors_stay_below, kept_sets_are_compactions, lawful_lists_keep_ids,
     lists_are_joined, log_is_what_was_published,

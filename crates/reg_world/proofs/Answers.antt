@@ -1,13 +1,13 @@
 -- The headline's claims, from what every list of events keeps.
 use Rattle.std.proofs.Common.{◌≡◌, ◌↔◌, ◌<◌, ◌⊎◌, inl, inr, ⊎_elim, ℕ, true, Some, None, IfSome, slice_get, refl, sym, ap, subst, arith}
 use Rattle.std.specs.FinSet.{contains}
-use Rattle.reg_records.specs.declared.key.Key.{Key}
-use Rattle.reg_records.specs.declared.record.Record.{Record}
-use Rattle.reg_set.specs.Compaction.{IsGone}
-use Rattle.reg_set.specs.LastRecords.{last, last_records}
-use Rattle.reg_set.specs.Records.{Records}
-use Rattle.reg_floored.specs.Compaction.{IsCompactionOf}
-use Rattle.reg_floored.specs.Floored.{Floored}
+use Rattle.reg_alike.specs.reg_records.declared.key.Key.{Key}
+use Rattle.reg_alike.specs.reg_records.declared.record.Record.{Record}
+use Rattle.reg_alike.specs.reg_set.Compaction.{IsGone}
+use Rattle.reg_alike.specs.reg_set.LastRecords.{last, last_records}
+use Rattle.reg_alike.specs.reg_set.Records.{Records}
+use Rattle.reg_alike.specs.reg_floored.Compaction.{IsCompactionOf}
+use Rattle.reg_alike.specs.reg_floored.Floored.{Floored}
 use Rattle.reg_topic.specs.Promises.{LawfulListsKeepIds, LawfulListsMeetLevels}
 use Rattle.reg_topic.specs.Topic.{whole_log}
 use Rattle.reg_world.specs.Core.{IsNodeOf, KeptIsCompaction, LogIsLawful, NoItemIsSkipped, NodesAreCompactions}
@@ -15,13 +15,13 @@ use Rattle.reg_world.specs.Happens.{Happens}
 use Rattle.reg_world.specs.Headline.{AnswersAreOfTheSet, AnswersAsTheLog, CaughtUpNodesAnswerAsTheLog, Gives}
 use Rattle.reg_world.specs.Headline.{HasKeptLasts, Ids, Levels, NodesCatchUp, SameAnswers, TakersOfAllCatchUp}
 use Rattle.reg_world.specs.Headline.{Took, taken_by}
-use Rattle.reg_lookup.specs.Answers.{HaveOneAnswer, IsAnswer, IsAnswerOver}
+use Rattle.reg_alike.specs.reg_lookup.Answers.{HaveOneAnswer, IsAnswer, IsAnswerOver}
 use Rattle.reg_world.specs.LowerLaws.{LowerLaws}
 use Rattle.reg_world.specs.State.{State, set_at, topic_of}
 use Rattle.reg_world.specs.declared.event.Event.TheVariants as events
 use Rattle.reg_world.specs.declared.event.Outcome.TheVariants as outcomes
-use Rattle.reg_lookup.specs.declared.answered.Answer.{Answer}
-use Rattle.reg_lookup.specs.declared.query.Query.{Query}
+use Rattle.reg_alike.specs.reg_lookup.declared.answered.Answer.{Answer}
+use Rattle.reg_alike.specs.reg_lookup.declared.query.Query.{Query}
 use Rattle.reg_world.specs.declared.node.WorldNode.{WorldNode}
 use Rattle.reg_world.proofs.Lasts.{IsPart, if_some, in_set, key_is, last_absent}
 use Rattle.reg_world.proofs.Lasts.{last_of_part, last_some, lasts_in, no_record}

@@ -2,10 +2,10 @@
 use Rattle.std.proofs.Common.{◌≡◌, ℕ, Bool, true, false, List, ap, refl, sym, ◌∙◌}
 use Rattle.std.proofs.lemmas.Bool.{false≢true}
 use Rattle.std.specs.FinSet.{from_list, union}
-use Rattle.reg_records.specs.declared.record.Record.{Record}
-use Rattle.reg_set.specs.LastRecords.{last_records}
-use Rattle.reg_set.specs.Records.{Records}
-use Rattle.reg_leader.specs.Adoption.{adopting}
+use Rattle.reg_alike.specs.reg_records.declared.record.Record.{Record}
+use Rattle.reg_alike.specs.reg_set.LastRecords.{last_records}
+use Rattle.reg_alike.specs.reg_set.Records.{Records}
+use Rattle.reg_alike.specs.reg_leader.Adoption.{adopting}
 use Rattle.reg_topic.specs.Topic.{after_batch, follows, plain_topic, registry_of, topic_from}
 use Rattle.reg_topic.specs.declared.topic.Topic.{Topic}
 

@@ -3,10 +3,10 @@ use Rattle.std.proofs.Common.{◌≡◌, Bool, true, false, ◌||◌, List, [], 
 use Rattle.std.specs.FinSet.{contains, from_list, insert, union, contains-from_list, contains-insert, contains-union, same_set}
 use Rattle.std.specs.List.{list_any}
 use Rattle.std.specs.Ordering.{eq_by_cmp}
-use Rattle.reg_records.specs.declared.record.Record.{Record}
-use Rattle.reg_set.specs.RecordOrder.{record_cmp}
-use Rattle.reg_set.specs.Records.{Records}
-use Rattle.reg_entries.specs.EntryOrder.{Place}
+use Rattle.reg_alike.specs.reg_records.declared.record.Record.{Record}
+use Rattle.reg_alike.specs.reg_set.RecordOrder.{record_cmp}
+use Rattle.reg_alike.specs.reg_set.Records.{Records}
+use Rattle.reg_alike.specs.reg_entries.EntryOrder.{Place}
 use Rattle.reg_world.specs.Eager.{after_records}
 use Rattle.reg_world.proofs.EagerSteps.{IsFit, one_record, seen}
 use Rattle.reg_world.proofs.Tops.{IsAbove, LastLaws}

@@ -13,18 +13,18 @@ use Rattle.std.specs.List.{AllByRecursion, filter_map, flat_map, fold}
 use Rattle.std.specs.Option.{option_or, unwrap_or}
 use Rattle.std.specs.Ordering.{eq_by_cmp}
 use Rattle.std.specs.declared.cmp.Ordering.TheVariants.{Less, Equal, Greater}
-use Rattle.reg_values.specs.Value.{value_of}
-use Rattle.reg_values.specs.OfKey.{ValuesAreOfKeys}
-use Rattle.reg_records.specs.declared.key.Key.TheVariants as keys
-use Rattle.reg_records.specs.declared.record.Record.{Record}
-use Rattle.reg_records.specs.declared.value.Value.{Value}
-use Rattle.reg_records.specs.declared.value.Value.TheVariants as values
-use Rattle.reg_set.specs.LastRecords.{last, last_records}
-use Rattle.reg_set.specs.Records.{Records, records_of}
-use Rattle.reg_entries.specs.EntryOrder.{Place, place_cmp, place_of}
-use Rattle.reg_entries.specs.Flagged.{with_soft}
-use Rattle.reg_entries.specs.declared.entry.Entry.{Entry}
-use Rattle.reg_fold.specs.Entries.{EntriesAreOfPlaces, entries, entry_map, entry_of, own_entry_in}
+use Rattle.reg_alike.specs.reg_values.Value.{value_of}
+use Rattle.reg_alike.specs.reg_values.OfKey.{ValuesAreOfKeys}
+use Rattle.reg_alike.specs.reg_records.declared.key.Key.TheVariants as keys
+use Rattle.reg_alike.specs.reg_records.declared.record.Record.{Record}
+use Rattle.reg_alike.specs.reg_records.declared.value.Value.{Value}
+use Rattle.reg_alike.specs.reg_records.declared.value.Value.TheVariants as values
+use Rattle.reg_alike.specs.reg_set.LastRecords.{last, last_records}
+use Rattle.reg_alike.specs.reg_set.Records.{Records, records_of}
+use Rattle.reg_alike.specs.reg_entries.EntryOrder.{Place, place_cmp, place_of}
+use Rattle.reg_alike.specs.reg_entries.Flagged.{with_soft}
+use Rattle.reg_alike.specs.reg_entries.declared.entry.Entry.{Entry}
+use Rattle.reg_alike.specs.reg_fold.Entries.{EntriesAreOfPlaces, entries, entry_map, entry_of, own_entry_in}
 use Rattle.reg_topic.specs.Topic.{records_of_item}
 use Rattle.reg_topic.specs.declared.published.Item.{Item}
 use Rattle.reg_topic.specs.declared.topic.Topic.{Topic}

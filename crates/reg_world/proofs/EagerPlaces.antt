@@ -9,13 +9,13 @@ use Rattle.std.specs.FinMap.{nat_cmp-IsAntisymmetric, slice_cmp-IsAntisymmetric}
 use Rattle.std.specs.Ordering.{eq_by_cmp, is_eq, nat_cmp, ordering_then}
 use Rattle.std.specs.declared.cmp.Ordering.{Ordering}
 use Rattle.std.specs.declared.cmp.Ordering.TheVariants.{Less, Equal, Greater}
-use Rattle.reg_records.specs.declared.key.Key.TheVariants as keys
-use Rattle.reg_set.specs.Join.{LastIsGreatest}
-use Rattle.reg_set.specs.LastRecords.{last, last_records}
-use Rattle.reg_set.specs.Records.{Records}
-use Rattle.reg_entries.specs.EntryOrder.{Place, place_cmp, place_of}
-use Rattle.reg_entries.specs.declared.entry.Entry.{Entry}
-use Rattle.reg_fold.specs.Entries.{EntriesAreOfKeys, EntriesAreOfPlaces, entries, entry_of}
+use Rattle.reg_alike.specs.reg_records.declared.key.Key.TheVariants as keys
+use Rattle.reg_alike.specs.reg_set.Join.{LastIsGreatest}
+use Rattle.reg_alike.specs.reg_set.LastRecords.{last, last_records}
+use Rattle.reg_alike.specs.reg_set.Records.{Records}
+use Rattle.reg_alike.specs.reg_entries.EntryOrder.{Place, place_cmp, place_of}
+use Rattle.reg_alike.specs.reg_entries.declared.entry.Entry.{Entry}
+use Rattle.reg_alike.specs.reg_fold.Entries.{EntriesAreOfKeys, EntriesAreOfPlaces, entries, entry_of}
 use Rattle.reg_world.specs.Eager.{standing_at}
 
 pub place_cmp-total : IsTotalOrder place_cmp

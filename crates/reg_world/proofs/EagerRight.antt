@@ -10,27 +10,27 @@ use Rattle.std.proofs.lemmas.Slice.Eq.{bytes_eq-Decides}
 use Rattle.std.specs.FinSet.{contains, from_list, insert, contains-from_list, contains-insert, contains-union}
 use Rattle.std.specs.List.{filter, list_any, reduce}
 use Rattle.std.specs.Ordering.{eq_by_cmp}
-use Rattle.reg_values.specs.Value.{value_of}
-use Rattle.reg_records.specs.Written.{written_value}
-use Rattle.reg_values.specs.OfKey.{IsValueOf}
-use Rattle.reg_records.specs.declared.key.Key.{Key}
-use Rattle.reg_records.specs.declared.key.Key.TheVariants as keys
-use Rattle.reg_records.specs.declared.limits.TheConstants.{OFFSET_LIMIT}
-use Rattle.reg_records.specs.declared.record.Record.{Record}
-use Rattle.reg_records.specs.declared.value.Value.{Value}
-use Rattle.reg_records.specs.declared.value.Value.TheVariants as values
+use Rattle.reg_alike.specs.reg_values.Value.{value_of}
+use Rattle.reg_alike.specs.reg_records.Written.{written_value}
+use Rattle.reg_alike.specs.reg_values.OfKey.{IsValueOf}
+use Rattle.reg_alike.specs.reg_records.declared.key.Key.{Key}
+use Rattle.reg_alike.specs.reg_records.declared.key.Key.TheVariants as keys
+use Rattle.reg_alike.specs.reg_records.declared.limits.TheConstants.{OFFSET_LIMIT}
+use Rattle.reg_alike.specs.reg_records.declared.record.Record.{Record}
+use Rattle.reg_alike.specs.reg_records.declared.value.Value.{Value}
+use Rattle.reg_alike.specs.reg_records.declared.value.Value.TheVariants as values
 use Rattle.reg_alike.specs.GiveAlike.{CompactionsGiveAlike}
-use Rattle.reg_set.specs.LastRecords.{last_records}
-use Rattle.reg_set.specs.RecordOrder.{record_cmp}
-use Rattle.reg_set.specs.Records.{Records}
-use Rattle.reg_entries.specs.EntryOrder.{Place}
-use Rattle.reg_entries.specs.Sought.{of_subject}
-use Rattle.reg_entries.specs.declared.entry.Entry.{Entry}
-use Rattle.reg_fold.specs.Entries.{EntriesAreOfKeys, EntriesAreOfPlaces, entries}
-use Rattle.reg_fold.specs.Standing.{greatest_version}
-use Rattle.reg_leader.specs.Deletes.{DeletesNameGreatest, IsSoftDelete}
-use Rattle.reg_records.specs.Key.{is_delete}
-use Rattle.reg_leader.specs.OneStep.{BatchesEndByTheLimit, BatchesGoOn, goes_on}
+use Rattle.reg_alike.specs.reg_set.LastRecords.{last_records}
+use Rattle.reg_alike.specs.reg_set.RecordOrder.{record_cmp}
+use Rattle.reg_alike.specs.reg_set.Records.{Records}
+use Rattle.reg_alike.specs.reg_entries.EntryOrder.{Place}
+use Rattle.reg_alike.specs.reg_entries.Sought.{of_subject}
+use Rattle.reg_alike.specs.reg_entries.declared.entry.Entry.{Entry}
+use Rattle.reg_alike.specs.reg_fold.Entries.{EntriesAreOfKeys, EntriesAreOfPlaces, entries}
+use Rattle.reg_alike.specs.reg_fold.Standing.{greatest_version}
+use Rattle.reg_alike.specs.reg_leader.Deletes.{DeletesNameGreatest, IsSoftDelete}
+use Rattle.reg_alike.specs.reg_records.Key.{is_delete}
+use Rattle.reg_alike.specs.reg_leader.OneStep.{BatchesEndByTheLimit, BatchesGoOn, goes_on}
 use Rattle.reg_topic.specs.Topic.{IsLawful, after_batch, after_compaction, after_item, after_items, follows}
 use Rattle.reg_topic.specs.Topic.{may_compact, published_by, records_of_item, registry_of, whole_log}
 use Rattle.reg_topic.specs.declared.published.Compaction.{Compaction}

@@ -6,20 +6,20 @@ use Rattle.std.proofs.lemmas.Slice.Eq.{bytes_eq-Decides}
 use Rattle.std.specs.FinSet.{insert}
 use Rattle.std.specs.Option.{option_map_or, unwrap_or}
 use Rattle.std.specs.Ordering.{eq_by_cmp}
-use Rattle.reg_values.specs.Value.{value_of}
-use Rattle.reg_records.specs.declared.key.Key.{Key}
-use Rattle.reg_records.specs.declared.key.Key.TheVariants as keys
-use Rattle.reg_records.specs.declared.record.Record.{Record}
-use Rattle.reg_records.specs.declared.value.Value.{Value}
-use Rattle.reg_records.specs.declared.value.Value.TheVariants as values
-use Rattle.reg_set.specs.LastRecords.{last, last_records}
-use Rattle.reg_set.specs.Records.{Records}
-use Rattle.reg_entries.specs.EntryOrder.{Place, place_cmp}
-use Rattle.reg_entries.specs.Flagged.{with_soft}
-use Rattle.reg_entries.specs.declared.entry.Entry.{Entry}
-use Rattle.reg_fold.specs.Entries.{entry_of, own_entry_in}
-use Rattle.reg_fold.specs.Entries as of_lasts
-use Rattle.reg_fold.specs.Covers.{covers, is_soft_deleted}
+use Rattle.reg_alike.specs.reg_values.Value.{value_of}
+use Rattle.reg_alike.specs.reg_records.declared.key.Key.{Key}
+use Rattle.reg_alike.specs.reg_records.declared.key.Key.TheVariants as keys
+use Rattle.reg_alike.specs.reg_records.declared.record.Record.{Record}
+use Rattle.reg_alike.specs.reg_records.declared.value.Value.{Value}
+use Rattle.reg_alike.specs.reg_records.declared.value.Value.TheVariants as values
+use Rattle.reg_alike.specs.reg_set.LastRecords.{last, last_records}
+use Rattle.reg_alike.specs.reg_set.Records.{Records}
+use Rattle.reg_alike.specs.reg_entries.EntryOrder.{Place, place_cmp}
+use Rattle.reg_alike.specs.reg_entries.Flagged.{with_soft}
+use Rattle.reg_alike.specs.reg_entries.declared.entry.Entry.{Entry}
+use Rattle.reg_alike.specs.reg_fold.Entries.{entry_of, own_entry_in}
+use Rattle.reg_alike.specs.reg_fold.Entries as of_lasts
+use Rattle.reg_alike.specs.reg_fold.Covers.{covers, is_soft_deleted}
 use Rattle.reg_world.specs.Eager.{after_key, flagged_by, flagged_with, put_by}
 use Rattle.reg_world.proofs.EagerPlaces.{at_itself, same_place, there}
 use Rattle.reg_world.proofs.Tops.{IsAbove, LastLaws, other_last, top_last}

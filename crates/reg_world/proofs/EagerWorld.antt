@@ -1,10 +1,10 @@
 -- What the eager fold of a world's log comes to.
 use Rattle.std.proofs.Common.{◌≡◌, ◌↔◌, List, Some, Contains, sym, subst, ◌∙◌}
 use Rattle.std.specs.FinMap as finmap
-use Rattle.reg_floored.specs.Laws.{EachIsItsOwnCompaction}
-use Rattle.reg_entries.specs.EntryOrder.{Place, place_cmp, place_of}
-use Rattle.reg_entries.specs.declared.entry.Entry.{Entry}
-use Rattle.reg_fold.specs.Entries.{EntriesAreOfPlaces, entries}
+use Rattle.reg_alike.specs.reg_floored.Laws.{EachIsItsOwnCompaction}
+use Rattle.reg_alike.specs.reg_entries.EntryOrder.{Place, place_cmp, place_of}
+use Rattle.reg_alike.specs.reg_entries.declared.entry.Entry.{Entry}
+use Rattle.reg_alike.specs.reg_fold.Entries.{EntriesAreOfPlaces, entries}
 use Rattle.reg_topic.specs.Topic.{registry_of, whole_log}
 use Rattle.reg_world.specs.Eager.{IsFoldedEagerly, eager}
 use Rattle.reg_world.specs.State.{State, topic_of}

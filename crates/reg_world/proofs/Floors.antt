@@ -1,8 +1,8 @@
 -- The kept floor and those of nodes, as the code compares them.
 use Rattle.std.proofs.Common.{◌≡◌, ◌≢◌, ℕ, suc, zero, ◌<◌, ◌==◌, Bool, true, false, List, [], ◌∷◌, length, Option}
 use Rattle.std.proofs.Common.{Some, None, option_map, slice_get, refl, sym, ap, subst, ◌∙◌, arith, eq-eqb, ne_eqb}
-use Rattle.reg_records.specs.declared.record.Record.{Record}
-use Rattle.reg_floored.specs.Floored.{Floored}
+use Rattle.reg_alike.specs.reg_records.declared.record.Record.{Record}
+use Rattle.reg_alike.specs.reg_floored.Floored.{Floored}
 use Rattle.reg_topic.specs.Laws.{ItemsAreFoldedInTurn}
 use Rattle.reg_topic.specs.Topic.{after_batch, follows}
 use Rattle.reg_topic.specs.declared.published.Commit.{Commit}

@@ -1,10 +1,10 @@
 -- An item that may follow is an event that happens.
 use Rattle.std.proofs.Common.{◌≡◌, ◌≢◌, true, List, [], ◌∷◌, None, refl, sym, ap, subst}
-use Rattle.reg_records.specs.declared.record.Record.{Record}
-use Rattle.reg_leader.specs.Step.{IsStep}
+use Rattle.reg_alike.specs.reg_records.declared.record.Record.{Record}
+use Rattle.reg_alike.specs.reg_leader.Step.{IsStep}
 use Rattle.reg_topic.specs.Topic.{may_compact, registry_of}
-use Rattle.reg_leader.specs.declared.command.Command.{Command}
-use Rattle.reg_leader.specs.declared.reply.Reply.{Reply}
+use Rattle.reg_alike.specs.reg_leader.declared.command.Command.{Command}
+use Rattle.reg_alike.specs.reg_leader.declared.reply.Reply.{Reply}
 use Rattle.reg_topic.specs.declared.published.Item.TheVariants as items
 use Rattle.reg_world.specs.Happens.{Steps, told}
 use Rattle.reg_world.specs.State.{State, publish, settle, settled, topic_of}

@@ -7,14 +7,14 @@ use Rattle.std.specs.FinSet.{contains, retain, union, contains-retain, contains-
 use Rattle.std.specs.Ordering.{is_le, ordering_then}
 use Rattle.std.specs.declared.cmp.Ordering.{Ordering}
 use Rattle.std.specs.declared.cmp.Ordering.TheVariants.{Less, Equal, Greater}
-use Rattle.reg_records.specs.declared.key.Key.{Key}
-use Rattle.reg_records.specs.declared.record.Record.{Record}
-use Rattle.reg_set.specs.Compaction.{IsGone}
-use Rattle.reg_set.specs.LastRecords.{last}
-use Rattle.reg_set.specs.RecordOrder.{age_cmp, value_cmp}
-use Rattle.reg_set.specs.Records.{Records}
-use Rattle.reg_floored.specs.Compaction.{IsCompactionOf, KeepsLasts}
-use Rattle.reg_floored.specs.Floored.{Floored}
+use Rattle.reg_alike.specs.reg_records.declared.key.Key.{Key}
+use Rattle.reg_alike.specs.reg_records.declared.record.Record.{Record}
+use Rattle.reg_alike.specs.reg_set.Compaction.{IsGone}
+use Rattle.reg_alike.specs.reg_set.LastRecords.{last}
+use Rattle.reg_alike.specs.reg_set.RecordOrder.{age_cmp, value_cmp}
+use Rattle.reg_alike.specs.reg_set.Records.{Records}
+use Rattle.reg_alike.specs.reg_floored.Compaction.{IsCompactionOf, KeepsLasts}
+use Rattle.reg_alike.specs.reg_floored.Floored.{Floored}
 use Rattle.reg_world.specs.LowerLaws.{LowerLaws}
 use Rattle.reg_world.proofs.Bools.{and-true, both_true, either, or_left, or_right}
 

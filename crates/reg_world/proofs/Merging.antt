@@ -1,10 +1,10 @@
 -- Merging.
 use Rattle.std.proofs.Common.{◌≡◌, sym, ap, subst}
-use Rattle.reg_floored.specs.Floored.{Floored}
-use Rattle.reg_floored.specs.Floors.{merged}
-use Rattle.reg_floored.specs.Laws.{CompactionsUnite, MergingIsAssociative, MergingIsCommutative, MergingIsIdempotent}
+use Rattle.reg_alike.specs.reg_floored.Floored.{Floored}
+use Rattle.reg_alike.specs.reg_floored.Floors.{merged}
+use Rattle.reg_alike.specs.reg_floored.Laws.{CompactionsUnite, MergingIsAssociative, MergingIsCommutative, MergingIsIdempotent}
 use Rattle.reg_alike.specs.AnswerAlike.{CompactionsAnswerAlike}
-use Rattle.reg_lookup.specs.Answers.{IsAnswerOver}
+use Rattle.reg_alike.specs.reg_lookup.Answers.{IsAnswerOver}
 use Rattle.reg_world.specs.Headline.{AnswerAlike, Merging}
 
 alike : (R S : Floored) → R ≡ S → AnswerAlike R S

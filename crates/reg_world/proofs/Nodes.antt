@@ -6,16 +6,16 @@ use Rattle.std.specs.Cmp.{Equal-is}
 use Rattle.std.specs.FinSet.{contains, empty, from_list, union, contains-empty, contains-from_list}
 use Rattle.std.specs.List.{list_any}
 use Rattle.std.specs.Ordering.{eq_by_cmp}
-use Rattle.reg_records.specs.declared.key.Key.{Key}
-use Rattle.reg_records.specs.declared.limits.TheConstants.{OFFSET_LIMIT}
-use Rattle.reg_records.specs.declared.record.Record.{Record}
-use Rattle.reg_set.specs.Compaction.{IsGone}
-use Rattle.reg_set.specs.LastRecords.{last, last_records}
-use Rattle.reg_set.specs.RecordOrder.{record_cmp}
-use Rattle.reg_set.specs.Records.{Records}
-use Rattle.reg_floored.specs.Compaction.{IsCompactionOf}
-use Rattle.reg_floored.specs.Floors.{below, from_floor, rebased}
-use Rattle.reg_leader.specs.OneStep.{goes_on}
+use Rattle.reg_alike.specs.reg_records.declared.key.Key.{Key}
+use Rattle.reg_alike.specs.reg_records.declared.limits.TheConstants.{OFFSET_LIMIT}
+use Rattle.reg_alike.specs.reg_records.declared.record.Record.{Record}
+use Rattle.reg_alike.specs.reg_set.Compaction.{IsGone}
+use Rattle.reg_alike.specs.reg_set.LastRecords.{last, last_records}
+use Rattle.reg_alike.specs.reg_set.RecordOrder.{record_cmp}
+use Rattle.reg_alike.specs.reg_set.Records.{Records}
+use Rattle.reg_alike.specs.reg_floored.Compaction.{IsCompactionOf}
+use Rattle.reg_alike.specs.reg_floored.Floors.{below, from_floor, rebased}
+use Rattle.reg_alike.specs.reg_leader.OneStep.{goes_on}
 use Rattle.reg_topic.specs.Topic.{after_batch, after_compaction, after_item, follows, left_by, may_compact, whole_log}
 use Rattle.reg_topic.specs.declared.published.Compaction.{Compaction}
 use Rattle.reg_topic.specs.declared.published.Item.{Item}

@@ -6,14 +6,14 @@ use Rattle.std.specs.Cmp.{Equal-is}
 use Rattle.std.specs.FinSet.{contains, from_list, contains-from_list}
 use Rattle.std.specs.List.{list_all, list_any}
 use Rattle.std.specs.Ordering.{eq_by_cmp}
-use Rattle.reg_records.specs.declared.record.Record.{Record}
-use Rattle.reg_set.specs.RecordOrder.{record_cmp}
-use Rattle.reg_set.specs.Records.{Records}
-use Rattle.reg_floored.specs.Floored.{Floored}
-use Rattle.reg_leader.specs.Step.{IsStep}
+use Rattle.reg_alike.specs.reg_records.declared.record.Record.{Record}
+use Rattle.reg_alike.specs.reg_set.RecordOrder.{record_cmp}
+use Rattle.reg_alike.specs.reg_set.Records.{Records}
+use Rattle.reg_alike.specs.reg_floored.Floored.{Floored}
+use Rattle.reg_alike.specs.reg_leader.Step.{IsStep}
 use Rattle.reg_topic.specs.Topic.{registry_of}
-use Rattle.reg_leader.specs.declared.command.Command.{Command}
-use Rattle.reg_leader.specs.declared.reply.Reply.{Reply}
+use Rattle.reg_alike.specs.reg_leader.declared.command.Command.{Command}
+use Rattle.reg_alike.specs.reg_leader.declared.reply.Reply.{Reply}
 use Rattle.reg_topic.specs.declared.published.Item.TheVariants as items
 use Rattle.reg_world.specs.Core.{IsNodeOf}
 use Rattle.reg_world.specs.Happens.{Does, Happens, at_floor, floors_agree, is_allowed, with_batch}

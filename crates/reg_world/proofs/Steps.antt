@@ -3,7 +3,7 @@ use Rattle.std.proofs.Common.{◌≡◌, ◌⊎◌, inl, inr, ℕ, suc, zero, tr
 use Rattle.std.proofs.Common.{None, MatchBool, is_some, slice_get, set, refl, sym, ap, subst, ◌∙◌}
 use Rattle.std.proofs.lemmas.Bool.{false≢true}
 use Rattle.std.specs.Option.{option_map_or}
-use Rattle.reg_floored.specs.Floored.{Floored}
+use Rattle.reg_alike.specs.reg_floored.Floored.{Floored}
 use Rattle.reg_world.specs.Happens.{Does, Happens, floors_agree, is_allowed}
 use Rattle.reg_world.specs.State.{State, changed, has_node, no_records, set_at, with_node}
 use Rattle.reg_world.specs.declared.event.Event.{Event}

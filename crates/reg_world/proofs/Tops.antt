@@ -6,12 +6,12 @@ use Rattle.std.specs.Cmp.{Equal-is, IsTotalOrder}
 use Rattle.std.specs.FinSet.{contains, insert, IsAntisymmetric, contains-insert}
 use Rattle.std.specs.Ordering.{eq_by_cmp, is_eq, is_le, nat_cmp, ordering_then}
 use Rattle.std.specs.declared.cmp.Ordering.TheVariants.{Less, Equal, Greater}
-use Rattle.reg_records.specs.declared.key.Key.{Key}
-use Rattle.reg_records.specs.declared.record.Record.{Record}
-use Rattle.reg_set.specs.Join.{LastIsGreatest, LastOfLastRecords, NoLastIsNoRecord}
-use Rattle.reg_set.specs.LastRecords.{last}
-use Rattle.reg_set.specs.RecordOrder.{age_cmp, record_cmp, value_cmp}
-use Rattle.reg_set.specs.Records.{Records}
+use Rattle.reg_alike.specs.reg_records.declared.key.Key.{Key}
+use Rattle.reg_alike.specs.reg_records.declared.record.Record.{Record}
+use Rattle.reg_alike.specs.reg_set.Join.{LastIsGreatest, LastOfLastRecords, NoLastIsNoRecord}
+use Rattle.reg_alike.specs.reg_set.LastRecords.{last}
+use Rattle.reg_alike.specs.reg_set.RecordOrder.{age_cmp, record_cmp, value_cmp}
+use Rattle.reg_alike.specs.reg_set.Records.{Records}
 use Rattle.reg_world.proofs.Bools.{either}
 
 -- what is known of last records

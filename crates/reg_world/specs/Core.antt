@@ -2,10 +2,10 @@
 use Rattle.std.specs.Prelude.{◌≡◌, ◌⊎◌, ◌↔◌, ◌<◌, ◌≤◌, ℕ, List, ◌∷◌, ◌++◌, Bool, true}
 use Rattle.std.specs.Prelude.{false, ◌&&◌, None, Some, IfSome, MatchBool, slice_get}
 use Rattle.std.specs.FinSet.{contains, from_list, union}
-use Rattle.reg_records.specs.declared.key.Key.{Key}
-use Rattle.reg_records.specs.declared.record.Record.{Record}
-use Rattle.reg_set.specs.LastRecords.{last}
-use Rattle.reg_floored.specs.Compaction.{IsCompactionOf, KeepsLasts}
+use Rattle.reg_alike.specs.reg_records.declared.key.Key.{Key}
+use Rattle.reg_alike.specs.reg_records.declared.record.Record.{Record}
+use Rattle.reg_alike.specs.reg_set.LastRecords.{last}
+use Rattle.reg_alike.specs.reg_floored.Compaction.{IsCompactionOf, KeepsLasts}
 use Rattle.reg_topic.specs.Topic.{IsAdopted, IsLawful, MayCommit, after_batch, published_by, whole_log}
 use Rattle.reg_topic.specs.declared.published.Item.{Item}
 use Rattle.reg_topic.specs.declared.published.Item.TheVariants as items

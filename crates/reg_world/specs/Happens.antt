@@ -2,15 +2,15 @@
 use Rattle.std.specs.Prelude.{◌≡◌, ℕ, List, [], ◌∷◌, Bool, true, ◌&&◌, ◌==◌, MatchBool}
 use Rattle.std.specs.FinSet.{contains, from_list}
 use Rattle.std.specs.List.{list_all}
-use Rattle.reg_records.specs.declared.record.Record.{Record}
-use Rattle.reg_leader.specs.Step.{IsStep}
+use Rattle.reg_alike.specs.reg_records.declared.record.Record.{Record}
+use Rattle.reg_alike.specs.reg_leader.Step.{IsStep}
 use Rattle.reg_topic.specs.Topic.{may_compact, registry_of}
-use Rattle.reg_leader.specs.declared.command.Command.{Command}
-use Rattle.reg_leader.specs.declared.reply.Reply.{Reply}
-use Rattle.reg_leader.specs.declared.reply.Reply.TheVariants as replies
+use Rattle.reg_alike.specs.reg_leader.declared.command.Command.{Command}
+use Rattle.reg_alike.specs.reg_leader.declared.reply.Reply.{Reply}
+use Rattle.reg_alike.specs.reg_leader.declared.reply.Reply.TheVariants as replies
 use Rattle.reg_topic.specs.declared.published.Compaction.{Compaction}
 use Rattle.reg_topic.specs.declared.published.Item.TheVariants as items
-use Rattle.reg_lookup.specs.Answers.{IsAnswerOver}
+use Rattle.reg_alike.specs.reg_lookup.Answers.{IsAnswerOver}
 use Rattle.reg_world.specs.State.{State, compacted, has_node, leave_unsettled, no_records}
 use Rattle.reg_world.specs.State.{publish, rebasing, set_at, settled, taking}
 use Rattle.reg_world.specs.State.{topic_of, with_node}
@@ -20,7 +20,7 @@ use Rattle.reg_world.specs.declared.event.Fate.{Fate}
 use Rattle.reg_world.specs.declared.event.Fate.TheVariants.{Published, Unsettled, Lost}
 use Rattle.reg_world.specs.declared.event.Outcome.{Outcome}
 use Rattle.reg_world.specs.declared.event.Outcome.TheVariants as outcomes
-use Rattle.reg_lookup.specs.declared.answered.Answer.{Answer}
+use Rattle.reg_alike.specs.reg_lookup.declared.answered.Answer.{Answer}
 
 -- records leave the kept set, which then has that floor
 abbrev pub at_floor : ℕ → List Record → Compaction

@@ -1,26 +1,26 @@
 -- The headline: what a registry of several nodes promises, after every list of events.
 use Rattle.std.specs.Prelude.{◌≡◌, ◌↔◌, ℕ, List, Some, true, IfSome, slice_get}
 use Rattle.std.specs.FinSet.{contains}
-use Rattle.reg_records.specs.declared.key.Key.{Key}
-use Rattle.reg_records.specs.declared.record.Record.{Record}
-use Rattle.reg_set.specs.LastRecords.{last}
-use Rattle.reg_floored.specs.Compaction.{IsCompactionOf}
-use Rattle.reg_floored.specs.Floored.{Floored}
-use Rattle.reg_floored.specs.Floors.{below, merged}
-use Rattle.reg_floored.specs.Laws.{MergingIsAssociative, MergingIsCommutative, MergingIsIdempotent}
+use Rattle.reg_alike.specs.reg_records.declared.key.Key.{Key}
+use Rattle.reg_alike.specs.reg_records.declared.record.Record.{Record}
+use Rattle.reg_alike.specs.reg_set.LastRecords.{last}
+use Rattle.reg_alike.specs.reg_floored.Compaction.{IsCompactionOf}
+use Rattle.reg_alike.specs.reg_floored.Floored.{Floored}
+use Rattle.reg_alike.specs.reg_floored.Floors.{below, merged}
+use Rattle.reg_alike.specs.reg_floored.Laws.{MergingIsAssociative, MergingIsCommutative, MergingIsIdempotent}
 use Rattle.reg_topic.specs.Promises.{IdsAreForGood, MetLevels}
 use Rattle.reg_topic.specs.Topic.{registry_of, whole_log}
 use Rattle.reg_world.specs.Core.{HasAllThatWasPublished, HasLawfulLog, HasNodes}
 use Rattle.reg_world.specs.Eager.{IsFoldedEagerly}
 use Rattle.reg_world.specs.Happens.{Happens}
 use Rattle.reg_world.specs.Runs.{After}
-use Rattle.reg_lookup.specs.Answers.{IsAnswer, IsAnswerOver}
+use Rattle.reg_alike.specs.reg_lookup.Answers.{IsAnswer, IsAnswerOver}
 use Rattle.reg_world.specs.State.{State, topic_of}
 use Rattle.reg_world.specs.declared.event.Event.{Event}
 use Rattle.reg_world.specs.declared.event.Event.TheVariants as events
 use Rattle.reg_world.specs.declared.event.Outcome.TheVariants as outcomes
-use Rattle.reg_lookup.specs.declared.answered.Answer.{Answer}
-use Rattle.reg_lookup.specs.declared.query.Query.{Query}
+use Rattle.reg_alike.specs.reg_lookup.declared.answered.Answer.{Answer}
+use Rattle.reg_alike.specs.reg_lookup.declared.query.Query.{Query}
 use Rattle.reg_world.specs.declared.node.WorldNode.{WorldNode}
 
 -- what a node took since its restart, at the floor that it has

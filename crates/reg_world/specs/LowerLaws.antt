@@ -1,10 +1,10 @@
 -- Private: the laws of the crates below that the claims rest on.
 use Rattle.std.specs.Cmp.{IsTotalOrder}
 use Rattle.std.specs.FinSet.{IsAntisymmetric}
-use Rattle.reg_set.specs.Join.{LastIsGreatest, LastOfLastRecords, NoLastIsNoRecord}
-use Rattle.reg_set.specs.Join as of_sets
-use Rattle.reg_set.specs.RecordOrder.{record_cmp}
-use Rattle.reg_floored.specs.Laws.{CompactionsCompose, KeepingLastsUnites, LastOfCompaction, RebasingKeepsLasts}
+use Rattle.reg_alike.specs.reg_set.Join.{LastIsGreatest, LastOfLastRecords, NoLastIsNoRecord}
+use Rattle.reg_alike.specs.reg_set.Join as of_sets
+use Rattle.reg_alike.specs.reg_set.RecordOrder.{record_cmp}
+use Rattle.reg_alike.specs.reg_floored.Laws.{CompactionsCompose, KeepingLastsUnites, LastOfCompaction, RebasingKeepsLasts}
 use Rattle.reg_alike.specs.AnswerAlike.{CompactionsAnswerAlike}
 use Rattle.reg_topic.specs.Laws.{AllowedDropsLeaveCompactions, CommitsFollow, FloorsStayBelow}
 use Rattle.reg_topic.specs.Laws.{ItemsAreFoldedInTurn, KeptStaysCompaction}

@@ -2,10 +2,10 @@
 use Rattle.std.specs.Prelude.{ℕ, suc, zero, List, [], ◌∷◌, ◌++◌, Bool, Option, Some, None, is_some, slice_get, replicate}
 use Rattle.std.specs.FinSet.{empty, union}
 use Rattle.std.specs.Option.{option_map_or}
-use Rattle.reg_set.specs.LastRecords.{last_records}
-use Rattle.reg_set.specs.Records.{Records}
-use Rattle.reg_floored.specs.Floored.{Floored}
-use Rattle.reg_floored.specs.Floors.{rebased}
+use Rattle.reg_alike.specs.reg_set.LastRecords.{last_records}
+use Rattle.reg_alike.specs.reg_set.Records.{Records}
+use Rattle.reg_alike.specs.reg_floored.Floored.{Floored}
+use Rattle.reg_alike.specs.reg_floored.Floors.{rebased}
 use Rattle.reg_topic.specs.Topic.{after_items}
 use Rattle.reg_topic.specs.declared.published.Commit.{Commit}
 use Rattle.reg_topic.specs.declared.published.Item.{Item}

@@ -2,10 +2,10 @@
 ghost use Rattle.std.specs.Prelude.{◌≡◌, ◌↔◌, ◌⊎◌, ◌+◌, ◌++◌, ◌<◌, ◌≤◌, true, None, IfOk, OnOk, OnErr, option_copied, option_map, replicate, slice_get, vec_capacity, vec_len};
 ghost use Rattle.std.specs.List.{list_all};
 ghost use Rattle.std.specs.FinSet.{contains};
-ghost use Rattle.reg_refusals.specs.Refusal.{no_memory};
-ghost use Rattle.reg_leader.specs.Outcome.{IsOutOfMemory};
-ghost use Rattle.reg_leader.specs.Step.{IsStep};
-ghost use Rattle.reg_leader.specs.declared.reply.Reply.TheVariants as replies;
+ghost use Rattle.reg_alike.specs.reg_refusals.Refusal.{no_memory};
+ghost use Rattle.reg_alike.specs.reg_leader.Outcome.{IsOutOfMemory};
+ghost use Rattle.reg_alike.specs.reg_leader.Step.{IsStep};
+ghost use Rattle.reg_alike.specs.reg_leader.declared.reply.Reply.TheVariants as replies;
 ghost use Rattle.reg_topic.specs.Topic.{follows, may_compact, registry_of};
 ghost use Rattle.reg_topic.specs.declared.published.Item.TheVariants as published;
 ghost use Rattle.reg_world.specs.Happens.{Happens, told, with_batch};
@@ -15,13 +15,15 @@ ghost use Rattle.reg_world.specs.declared.event.Event.TheVariants as events;
 use crate::event::{Event, Fate, Outcome};
 use crate::folding::{Decided, Folded};
 use crate::node::WorldNode;
-use base_text::Listed;
-use reg_floored::KeptSet;
-use reg_fold::{Refusal, Registry, StoreFault};
-use reg_leader::{Command, Decision, Reply, batches_end_by_the_limit, batches_go_on, decide};
-use reg_lookup::{Query, answer};
-use reg_records::Record;
-use reg_set::RecordSet;
+use reg_alike::base_text::Listed;
+use reg_alike::reg_floored::KeptSet;
+use reg_alike::reg_fold::{Refusal, Registry, StoreFault};
+use reg_alike::reg_leader::{
+    Command, Decision, Reply, batches_end_by_the_limit, batches_go_on, decide,
+};
+use reg_alike::reg_lookup::{Query, answer};
+use reg_alike::reg_records::Record;
+use reg_alike::reg_set::RecordSet;
 use reg_topic::{Commit, Compaction, Item, Topic, lawful_items_follow};
 use std::alloc::{AllocError, Global};
 use std::marker::Model;

@@ -3,25 +3,25 @@ ghost use Rattle.std.specs.Prelude.{◌≡◌, ◌||◌, [], IfOk, OnOk, map, na
 ghost use Rattle.std.specs.FinMap as finmap;
 ghost use Rattle.std.specs.List.{Contains};
 ghost use Rattle.std.specs.Option.{option_map_or};
-ghost use Rattle.reg_records.specs.declared.key.Key.TheVariants as keys;
-ghost use Rattle.reg_records.specs.declared.value.Value.TheVariants as values;
-ghost use Rattle.reg_set.specs.LastRecords.{last_records};
-ghost use Rattle.reg_entries.specs.EntryOrder.{Place, place_of};
-ghost use Rattle.reg_entries.specs.Flagged.{FlagsEach};
-ghost use Rattle.reg_entries.specs.Sought.{of_subject};
-ghost use Rattle.reg_entries.specs.declared.entry.Entry.{Entry};
-ghost use Rattle.reg_fold.specs.Entries.{entries};
+ghost use Rattle.reg_alike.specs.reg_records.declared.key.Key.TheVariants as keys;
+ghost use Rattle.reg_alike.specs.reg_records.declared.value.Value.TheVariants as values;
+ghost use Rattle.reg_alike.specs.reg_set.LastRecords.{last_records};
+ghost use Rattle.reg_alike.specs.reg_entries.EntryOrder.{Place, place_of};
+ghost use Rattle.reg_alike.specs.reg_entries.Flagged.{FlagsEach};
+ghost use Rattle.reg_alike.specs.reg_entries.Sought.{of_subject};
+ghost use Rattle.reg_alike.specs.reg_entries.declared.entry.Entry.{Entry};
+ghost use Rattle.reg_alike.specs.reg_fold.Entries.{entries};
 ghost use Rattle.reg_topic.specs.Topic.{records_of_item};
 ghost use Rattle.reg_world.specs.Eager.{after_key, after_records, eager_after, flagged_by, flagged_with, put_by, standing_at};
 
-use avro_schema::Schema;
-use base_text::Text;
-use reg_entries::{Entries, Entry, Flag};
-use reg_fold::{Registry, entries_are_of_places};
-use reg_records::{Key, Record, Value};
-use reg_set::RecordSet;
+use reg_alike::avro_schema::Schema;
+use reg_alike::base_text::Text;
+use reg_alike::reg_entries::{Entries, Entry, Flag};
+use reg_alike::reg_fold::{Registry, entries_are_of_places};
+use reg_alike::reg_records::{Key, Record, Value};
+use reg_alike::reg_set::RecordSet;
+use reg_alike::reg_values::{Decoded, decode, decode_value, values_are_of_keys};
 use reg_topic::{Item, Topic};
-use reg_values::{Decoded, decode, decode_value, values_are_of_keys};
 use std::alloc::{AllocError, Global};
 
 /// What stands after all that the items published, taken record by record, where the entries of the

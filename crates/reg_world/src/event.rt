@@ -1,8 +1,8 @@
 // What can happen, and what comes of it.
-use base_text::Listed;
-use reg_leader::{Command, Reply};
-use reg_lookup::{Answer, Query};
-use reg_records::Record;
+use reg_alike::base_text::Listed;
+use reg_alike::reg_leader::{Command, Reply};
+use reg_alike::reg_lookup::{Answer, Query};
+use reg_alike::reg_records::Record;
 
 /// What becomes of a batch.
 #[derive(Clone, Copy, Debug, PartialEq, Eq)]

@@ -1,14 +1,14 @@
 // What a cluster folds of its items: the registry at once, and the sets when they are asked for.
 ghost use Rattle.std.specs.Prelude.{◌≡◌, ◌+◌, ◌≤◌, suc, length, take, OnErr, OnOk};
 ghost use Rattle.std.specs.FinSet.{from_list, union};
-ghost use Rattle.reg_records.specs.declared.limits.TheConstants.{OFFSET_LIMIT};
-ghost use Rattle.reg_set.specs.LastRecords.{last_records};
-ghost use Rattle.reg_set.specs.Records.{Records};
+ghost use Rattle.reg_alike.specs.reg_records.declared.limits.TheConstants.{OFFSET_LIMIT};
+ghost use Rattle.reg_alike.specs.reg_set.LastRecords.{last_records};
+ghost use Rattle.reg_alike.specs.reg_set.Records.{Records};
 ghost use Rattle.reg_topic.specs.Topic.{after_items};
 ghost use Rattle.reg_topic.specs.declared.topic.Topic as of_topics;
 
-use reg_fold::Registry;
-use reg_records::Record;
+use reg_alike::reg_fold::Registry;
+use reg_alike::reg_records::Record;
 use reg_topic::{Item, Topic, lawful_items_follow};
 use std::alloc::{AllocError, Global};
 

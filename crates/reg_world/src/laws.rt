@@ -6,23 +6,23 @@ ghost use Rattle.reg_world.specs.Headline.{AnswersAreOfTheSet, CaughtUpNodesAnsw
 ghost use Rattle.reg_world.specs.LowerLaws.{LowerLaws};
 ghost use Rattle.reg_world.specs.Threads.{ItemsHappen};
 
-use reg_alike::{compactions_answer_alike, compactions_give_alike};
-use reg_floored::{
+use reg_alike::reg_floored::{
     compactions_compose, compactions_keep_what_stands, compactions_unite, merging_joins_kept_sets,
     rebasing_keeps_lasts,
 };
-use reg_fold::entries_are_of_places;
-use reg_leader::{batches_end_by_the_limit, batches_go_on, deletes_name_greatest};
-use reg_lookup::queries_have_one_answer;
-use reg_set::{
+use reg_alike::reg_fold::entries_are_of_places;
+use reg_alike::reg_leader::{batches_end_by_the_limit, batches_go_on, deletes_name_greatest};
+use reg_alike::reg_lookup::queries_have_one_answer;
+use reg_alike::reg_set::{
     keeping_lasts_composes, last_is_greatest, last_records_are_enough, records_are_ordered,
 };
+use reg_alike::reg_values::written_values_read_back;
+use reg_alike::{compactions_answer_alike, compactions_give_alike};
 use reg_topic::{
     allowed_drops_leave_compactions, commits_follow, floors_stay_below, kept_sets_are_compactions,
     lawful_items_follow, lawful_lists_keep_ids, lawful_lists_meet_levels,
     log_is_what_was_published,
 };
-use reg_values::written_values_read_back;
 
 /// The laws of the crates below.
 fn lower_laws()

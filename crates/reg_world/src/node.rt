@@ -1,10 +1,10 @@
 // A node of a world.
 ghost use Rattle.std.specs.Prelude.{◌≡◌, IfOk};
-ghost use Rattle.reg_floored.specs.Floors.{rebased};
+ghost use Rattle.reg_alike.specs.reg_floored.Floors.{rebased};
 ghost use Rattle.reg_world.specs.State.{compacted, no_records, rebasing, taking};
 
-use reg_floored::KeptSet;
-use reg_set::RecordSet;
+use reg_alike::reg_floored::KeptSet;
+use reg_alike::reg_set::RecordSet;
 use std::alloc::{AllocError, Global};
 
 /// A node's set, beside all records that joined it since its last restart.

@@ -1,6 +1,6 @@
 use Rattle.std.proofs.Common.{Bor, map, sym, ap, subst, ◌∙◌}
-use Rattle.reg_entries.specs.declared.entry.Entry.{Entry}
-use Rattle.reg_fold.specs.Entries.{entries}
+use Rattle.reg_alike.specs.reg_entries.declared.entry.Entry.{Entry}
+use Rattle.reg_alike.specs.reg_fold.Entries.{entries}
 use Rattle.reg_world.proofs.EagerMaps.{AreAlone, are_alone}
 use Rattle.reg_world.proofs.eager.entries_of.Goals as goal
 

@@ -1,6 +1,6 @@
 use Rattle.std.proofs.Common.{◌≡◌, take}
 use Rattle.std.specs.FinMap as finmap
-use Rattle.reg_entries.specs.EntryOrder.{Place}
+use Rattle.reg_alike.specs.reg_entries.EntryOrder.{Place}
 use Rattle.reg_world.specs.Eager.{eager_after}
 use Rattle.reg_world.proofs.eager.fold_eagerly.Given as goal
 

@@ -2,8 +2,8 @@ use Rattle.std.proofs.Common.{◌≡◌, ◌<◌, Bor, get_or, length, map, sym,
 use Rattle.std.proofs.Math.ListN.{get_or-map}
 use Rattle.std.proofs.lemmas.List.{length-map}
 use Rattle.std.specs.FinMap as finmap
-use Rattle.reg_entries.specs.EntryOrder.{place_cmp, place_of}
-use Rattle.reg_entries.specs.declared.entry.Entry.{Entry}
+use Rattle.reg_alike.specs.reg_entries.EntryOrder.{place_cmp, place_of}
+use Rattle.reg_alike.specs.reg_entries.declared.entry.Entry.{Entry}
 use Rattle.reg_world.proofs.EagerMaps.{entry_more}
 use Rattle.reg_world.proofs.eager.put_all.Goals as goal
 

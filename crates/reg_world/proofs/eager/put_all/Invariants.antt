@@ -1,6 +1,6 @@
 use Rattle.std.proofs.Common.{◌≡◌, map, take}
 use Rattle.std.specs.FinMap as finmap
-use Rattle.reg_entries.specs.EntryOrder.{Place}
+use Rattle.reg_alike.specs.reg_entries.EntryOrder.{Place}
 use Rattle.reg_world.specs.Eager.{standing_at}
 use Rattle.reg_world.proofs.eager.put_all.Given as goal
 

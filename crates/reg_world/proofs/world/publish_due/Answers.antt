@@ -1,5 +1,5 @@
 use Rattle.std.proofs.Common.{◌≡◌, List, false, true, rules}
-use Rattle.reg_records.specs.declared.record.Record.{Record}
+use Rattle.reg_alike.specs.reg_records.declared.record.Record.{Record}
 use Rattle.reg_topic.specs.Topic.{follows}
 use Rattle.reg_topic.specs.declared.topic.Topic.{Topic}
 use Rattle.reg_world.proofs.Begun.{batch_registry, batch_stays}

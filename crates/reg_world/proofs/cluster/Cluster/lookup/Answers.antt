@@ -1,7 +1,7 @@
 use Rattle.std.proofs.Common.{◌≡◌, Some, None, slice_get, refl, sym, ap, subst, ◌∙◌, rules}
-use Rattle.reg_set.specs.LastRecords.{last_records}
-use Rattle.reg_floored.specs.Floored.{Floored}
-use Rattle.reg_lookup.specs.Answers.{IsAnswer, IsAnswerOver}
+use Rattle.reg_alike.specs.reg_set.LastRecords.{last_records}
+use Rattle.reg_alike.specs.reg_floored.Floored.{Floored}
+use Rattle.reg_alike.specs.reg_lookup.Answers.{IsAnswer, IsAnswerOver}
 use Rattle.reg_world.specs.State.{set_at}
 use Rattle.reg_world.specs.declared.event.Event.TheVariants as events
 use Rattle.reg_world.specs.declared.event.Outcome.TheVariants as outcomes

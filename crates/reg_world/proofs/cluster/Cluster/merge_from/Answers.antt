@@ -1,5 +1,5 @@
 use Rattle.std.proofs.Common.{◌≡◌, ◌≢◌, ◌&&◌, ◌==◌, Some, None, slice_get, set, refl, sym, ap, ◌∙◌, rules}
-use Rattle.reg_floored.specs.Floored.{Floored}
+use Rattle.reg_alike.specs.reg_floored.Floored.{Floored}
 use Rattle.reg_world.specs.State.{State, has_node, set_at, taking}
 use Rattle.reg_world.specs.declared.event.Event.TheVariants as events
 use Rattle.reg_world.specs.declared.event.Outcome.TheVariants as outcomes

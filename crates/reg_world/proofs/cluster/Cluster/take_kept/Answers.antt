@@ -1,7 +1,7 @@
 use Rattle.std.proofs.Common.{◌≡◌, ◌≢◌, ◌&&◌, Some, None, slice_get, set, refl, sym, ap, ◌∙◌, rules}
 use Rattle.std.specs.FinSet.{contains, from_list}
 use Rattle.std.specs.List.{list_all}
-use Rattle.reg_set.specs.RecordOrder.{record_cmp}
+use Rattle.reg_alike.specs.reg_set.RecordOrder.{record_cmp}
 use Rattle.reg_world.specs.State.{State, taking, topic_of}
 use Rattle.reg_world.specs.declared.event.Event.TheVariants as events
 use Rattle.reg_world.specs.declared.event.Outcome.TheVariants as outcomes

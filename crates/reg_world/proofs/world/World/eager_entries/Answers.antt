@@ -1,7 +1,7 @@
 use Rattle.std.proofs.Common.{◌≡◌, ap, subst, ◌∙◌}
 use Rattle.std.proofs.lemmas.Result.{IfOk-weaker}
 use Rattle.std.specs.FinMap as finmap
-use Rattle.reg_entries.specs.EntryOrder.{Place}
+use Rattle.reg_alike.specs.reg_entries.EntryOrder.{Place}
 use Rattle.reg_world.specs.Eager.{IsFoldedEagerly, eager, eager_after}
 use Rattle.reg_world.specs.Runs.{After}
 use Rattle.reg_world.specs.State.{State}

@@ -1,8 +1,8 @@
 use Rattle.std.proofs.Common.{◌≡◌, List, false, ap, subst, sym, ◌∙◌, arith}
 use Rattle.std.specs.FinSet.{from_list}
-use Rattle.reg_fold.specs.Closed.{is_closed}
-use Rattle.reg_leader.specs.Adoption.{HasPlace}
-use Rattle.reg_set.specs.LastRecords.{last_records}
+use Rattle.reg_alike.specs.reg_fold.Closed.{is_closed}
+use Rattle.reg_alike.specs.reg_leader.Adoption.{HasPlace}
+use Rattle.reg_alike.specs.reg_set.LastRecords.{last_records}
 use Rattle.reg_topic.specs.Topic.{topic_from}
 use Rattle.reg_topic.specs.declared.topic.Topic.{Topic}
 use Rattle.reg_world.specs.Headline.{IsReached}
