@@ -1,6 +1,7 @@
 #!/bin/bash
 # Makes a fresh Debian in a folder, boots it with systemd, and there installs the package, has set-up.sh set up a registry, asks it,
-# kills it, boots anew and asks again, has a follower, upgrades, also beside a joined process, removes and purges: docs/DEPLOY.md.
+# kills it, boots anew and asks again, has a follower, takes its log away for a start, upgrades, also beside a joined process, removes and
+# purges: docs/DEPLOY.md.
 #
 #   try-debian.sh PACKAGE [OPTION ..]
 #
@@ -39,6 +40,8 @@ set_up() {
     apt-get update
     apt-get install -y ./registry.deb
     same "what runs once it is installed" "inactive inactive" "$(systemctl is-active registrylog registrylog-follow | paste -sd ' ')"
+    same "the log, an empty line" "registry registry 640 1" "$(stat -c '%U %G %a %s' $log)"
+    same "whether the unit wants its folder mounted" 1 "$(show RequiresMountsFor | tr ' ' '\n' | grep -c '^/var/lib/registry$')"
     echo secret | /usr/share/registry/set-up.sh registry.here someone
     same "registering" '{"id":1}' "$(mine --json "$int" $site/subjects/s/versions)"
     systemctl enable --now registrylog-follow
@@ -107,6 +110,19 @@ fault_once() {
     answers_at_once "a start over what was mended"
 }
 
+# A log that is missing ends the unit too, and none is made.
+missing_once() {
+    systemctl stop registrylog
+    mv $log kept
+    systemctl start registrylog 2>missed && same "a start without a log" refused done
+    sleep 5
+    same "how a start without a log ends" "failed 2 0" "$(show ActiveState) $(show ExecMainStatus) $(show NRestarts)"
+    same "what is made then" '' "$(ls $log 2>/dev/null || true)"
+    mv kept $log
+    systemctl start registrylog
+    answers_at_once "a start once the log is back"
+}
+
 upgrade() {
     local before count
     before=$(show InvocationID) count=$(starts)
@@ -153,6 +169,7 @@ kill_once
 if [ -e been ]; then
     compact_once
     fault_once
+    missing_once
     upgrade
     upgrade_joined
     take_away

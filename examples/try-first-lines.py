@@ -5,7 +5,8 @@
 
 It needs the toolchain's `rt`, curl, and port 8081 of 127.0.0.1. The commands are those of README's first block with `$ `; the first of
 them builds and starts the registry. It says how many seconds passed until that answered a registration. Then the registry is ended by
-TERM, has to leave nothing that runs, and is started once more: its log has to be whole. The status is 1 where anything differs.
+TERM, has to leave nothing that runs, and is started once more, without --new: its log has to be whole. The status is 1 where anything
+differs.
 """
 import os
 import re
@@ -70,7 +71,7 @@ def main():
             faults += end(program)
         with open(Path(room, "again"), "wb") as again:
             before = time.monotonic()
-            program = start(begun, clone, again)
+            program = start(begun.replace(" --new ", " "), clone, again)
             print(f"a second start took {time.monotonic() - before:.0f} s")
             if b"serving 1 records" not in Path(again.name).read_bytes():
                 faults.append(f"the log isn't whole: {Path(again.name).read_text()}")

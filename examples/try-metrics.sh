@@ -1,6 +1,6 @@
 #!/bin/bash
-# Has Prometheus watch a registry with alerts.yml and dashboard.json, fills the registry's disk under load, kills it, mends it, and looks
-# which alerts come and go: docs/DEPLOY.md.
+# Has Prometheus watch a registry with alerts.yml and dashboard.json, fills the registry's disk under load, kills it, starts it on the full
+# disk, mends it, and looks which alerts come and go: docs/DEPLOY.md.
 #
 #   try-metrics.sh REGISTRYLOG
 #
@@ -57,10 +57,11 @@ make_disk() {
     else
         ok "a limit on the size of files, since this user can't mount"
     fi
+    echo >"$folder/disk/log"
 }
 
-# start_registry [LIMIT]: with a limit of so many KiB on its files, where there is no small file system.
-start_registry() {
+# run_registry [LIMIT]: with a limit of so many KiB on its files, where there is no small file system.
+run_registry() {
     (
         # Without a handler a write past the limit would end the process.
         trap '' XFSZ
@@ -68,6 +69,10 @@ start_registry() {
         exec "$program" keep --quiet --listen "$registry" --metrics "$metrics" "$folder/disk/log" 2>>"$folder/registry.err"
     ) &
     processes[registry]=$!
+}
+
+start_registry() {
+    run_registry "$@"
     await "the registry is ready" curl -sf "http://$metrics/ready"
 }
 
@@ -191,15 +196,27 @@ try_kill() {
     echo "firing: $(firing)"
 }
 
+# A start that has to write, on the full disk: what a killed write left behind the log finds no room elsewhere.
+try_full_start() {
+    [ -n "$mounted" ] || return 0
+    run_registry
+    await "a start on the full disk serves" curl -s -o "$folder/checked" "http://$registry/schemas/ids/1"
+    same "what /ready says then" declined "$(curl -s "http://$metrics/ready")"
+    await "RegistryDiskFull fires, since the disk is full" fires RegistryDiskFull
+    same "registering then" "0 11" "$(load fourth 20 20)"
+    end registry
+    echo "firing: $(firing)"
+}
+
 try_mending() {
     [ -z "$mounted" ] || mount -o remount,size=8m "$folder/disk"
     start_registry
     same "registering goes on" "20 0" "$(load third 20 20)"
     # Errors before count until five minutes have passed.
-    await "RegistryLogLost and RegistryDown are gone once it was mended and started" mended
+    await "these are gone once it was mended and started" mended
     echo "firing: $(firing)"
 }
-mended() { ! fires RegistryLogLost && ! fires RegistryDown; }
+mended() { ! fires RegistryLogLost && ! fires RegistryDiskFull && ! fires RegistryDown; }
 
 [ $# = 1 ] || { echo "usage: $0 REGISTRYLOG" >&2; exit 2; }
 try_rules
@@ -211,5 +228,6 @@ try_dashboard
 try_load
 try_full_disk
 try_kill
+try_full_start
 try_mending
 echo "all as it should be"

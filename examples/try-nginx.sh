@@ -52,6 +52,7 @@ await() {
 }
 
 start_writer() {
+    [ -s "$folder/log" ] || echo >"$folder/log"
     "$program" keep --quiet --listen "127.0.0.1:$writer" "$folder/log" 2>>"$folder/writer.err" &
     processes[writer]=$!
     await "$writer"

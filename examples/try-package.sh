@@ -1,6 +1,6 @@
 #!/bin/bash
 # Makes the package, installs it in a fresh Debian, and looks at the outcome of each step: what is there, completion, serving by the unit's
-# line as its user, a kill, an upgrade beside a kept log and the way back, removal and purging: docs/DEPLOY.md.
+# line as its user, a kill, a start without a log, an upgrade beside a kept log and the way back, removal and purging: docs/DEPLOY.md.
 #
 #   try-package.sh            makes it twice, in this clone and in another, and says whether both are the same; then tries it
 #   try-package.sh PACKAGE    tries that one
@@ -84,6 +84,7 @@ try_installed() {
     same "units" "disabled disabled disabled" "$(systemctl is-enabled "${units[@]}" 2>&1 | paste -sd ' ' || true)"
     same "the user" "registry /usr/sbin/nologin" "$(getent passwd registry | cut -d : -f 1,7 | tr : ' ')"
     same "the folder" "registry registry 750" "$(stat -c '%U %G %a' /var/lib/registry)"
+    same "the log, an empty line" "registry registry 640 1 0" "$(stat -c '%U %G %a %s' "$log") $(tr -d '\n' <"$log" | wc -c)"
     same "the checksums of PROVED" $'registryd: OK\nregistrylog: OK' "$(cd /usr/bin && grep '  registry' /usr/share/doc/registry/PROVED | sha256sum -c)"
     same "the units' faults" '' "$(systemd-analyze verify --man=no "${units[@]/%/.service}" 2>&1)"
     for name in "${units[@]}"; do
@@ -102,6 +103,7 @@ try_completion() {
     same "completion of a value" '' "$(completed registrylog keep --nodes '')"
     cd /trial
     same "completion of a file" higher.deb "$(completed registrylog check high)"
+    same "completion of a file behind an option without a value" higher.deb "$(completed registrylog keep --new high)"
     same "completion of a begun command" compact "$(completed registrylog comp)"
 }
 
@@ -140,10 +142,25 @@ try_metrics() {
     start registrylog
 }
 
+# A start without a log makes none.
+try_without_log() {
+    mv "$log" kept
+    end
+    start registrylog
+    wait "$!" && same "a start without a log" refused done || same "the status of a start without a log" 2 "$?"
+    same "what it says" "$log: no log is there. Is its disk mounted, its name right? With --new a new one is made" "$(cat registrylog.said)"
+    mv kept "$log"
+    start registrylog
+    same "reading once the log is back" '{"schema":"\"int\""}' "$(schema 9081 1)"
+}
+
 try_upgrade() {
     local before
     before=$(sum)
+    mv "$log" kept
     dpkg -i higher.deb >upgrade.said 2>&1
+    same "what an upgrade makes where no log is" '' "$(ls "$log" 2>/dev/null || true)"
+    mv kept "$log"
     has "the higher version" "+higher install ok installed" "$(version)"
     same "the log after an upgrade" "$before" "$(sum)"
     same "the old program goes on" '{"schema":"\"int\""}' "$(schema 9081 1)"
@@ -178,7 +195,7 @@ try_removal() {
 }
 
 cd /trial
-for part in installed completion serving metrics upgrade removal; do "try_$part"; done
+for part in installed completion serving metrics without_log upgrade removal; do "try_$part"; done
 END_OF_TRIAL
     chmod +x "$root/trial/run.sh"
 }

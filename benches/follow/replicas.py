@@ -33,7 +33,8 @@ def ask(port, method, path, body=None, connection=None):
 
 
 def writer():
-    p = subprocess.Popen([PROGRAM, "keep", "--listen", f"127.0.0.1:{WRITER}", LOG], stderr=open(f"{FOLDER}/writer.err", "ab"))
+    new = [] if os.path.exists(LOG) else ["--new"]
+    p = subprocess.Popen([PROGRAM, "keep", *new, "--listen", f"127.0.0.1:{WRITER}", LOG], stderr=open(f"{FOLDER}/writer.err", "ab"))
     for _ in range(500):
         try:
             ask(WRITER, "GET", "/mode")

@@ -33,7 +33,9 @@ class Kept:
         port += 4
         self.port = port
         self.errors = tempfile.TemporaryFile()
-        self.process = subprocess.Popen([PROGRAM, "keep", "--listen", "127.0.0.1:%d" % port, "--nodes", str(nodes), "--quiet", path], stderr=self.errors)
+        new = [] if os.path.exists(path) else ["--new"]
+        places = ["--listen", "127.0.0.1:%d" % port, "--nodes", str(nodes)]
+        self.process = subprocess.Popen([PROGRAM, "keep", *new, *places, "--quiet", path], stderr=self.errors)
         begun = time.time()
         while time.time() - begun < wait:
             if self.process.poll() is not None:
@@ -382,14 +384,16 @@ def full():
         if set(refused) != {"Store error: unsettled"} or said.count(b"log lost at offset") != 1 or lookups != told:
             bad("full", refused, said, lookups, told)
         again = Kept(path)
-        if again.process.poll() is not None:
-            # There was no room for what stands behind the log, so nothing was cut off.
-            print("on the full disk: %s" % again.text().decode().strip())
-            subprocess.run(["mount", "-o", "remount,size=512k", folder], check=True)
-            again = Kept(path)
+        print("on the full disk: %s" % again.text().decode().strip())
+        lookups = len(ask(again.connect(), "GET", "/subjects")[1])
+        if lookups not in (told, told + 1):
+            bad("lookups on the full disk", lookups, told)
+        again.end()
+        subprocess.run(["mount", "-o", "remount,size=512k", folder], check=True)
+        again = Kept(path)
         c = again.connect()
         got = ask(c, "GET", "/subjects")[1]
-        if len(got) not in (told, told + 1):
+        if len(got) not in (told, told + 1) or ask(c, "PUT", "/config", {"compatibility": "FULL"})[0] != 200:
             bad("opened again", len(got), told)
         again.end()
         print("a full disk: %d commands acknowledged, then %s; opened again with %d subjects" % (told, refused[0], len(got)))
@@ -441,7 +445,7 @@ def cut():
     new = FOLDER + "/new"
     kept = Kept(new)
     said = kept.end()
-    if open(new).read() != "\n" or b"0 records, next offset 0, 1 bytes" not in said:
+    if open(new).read() != "\n" or said != b"made a new log\nserving 0 records, next offset 0, 1 bytes\n":
         bad("new", said, open(new).read())
 
 
