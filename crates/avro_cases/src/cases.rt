@@ -5,10 +5,9 @@ use crate::nodes::nodes_answer;
 use crate::pairs::pair_answer;
 use crate::schemas::{default_answer, normal_answer, schema_answer};
 use crate::values::{fit_answer, hash_answer, sample_answer, value_answer};
-use crate::written::text_of;
 use crate::{Answer, Done};
-use std::alloc::{AllocError, Global};
-use test_tools::{Tally, paragraphs_of, rows_of};
+use std::alloc::Global;
+use test_tools::{Tally, numbered_text, paragraphs_of, rows_of};
 
 /// How many schemas stand above the cases of a paragraph.
 fn schemas_above(kind: &str) -> usize {
@@ -38,51 +37,37 @@ fn answer(alloc: Global, kind: &str, above: (&str, &str), asked: &str) -> Answer
     }
 }
 
-fn came_of(alloc: Global, kind: &str, above: &[&str], asked: &str) -> Answer {
-    let first = text_of(alloc, above.first().copied().unwrap_or(""))?;
-    let second = text_of(alloc, above.get(1).copied().unwrap_or(""))?;
-    let asked = text_of(alloc, asked)?;
-    let above = (first.as_str(), second.as_str());
-    answer(alloc, kind, above, asked.as_str())
-}
-
-/// A case with the schemas above it.
-fn shown(alloc: Global, above: &[&str], case: &str) -> Answer {
-    let mut text = String::new(alloc);
-    for schema in above {
-        write!(text, "{schema}\n")?;
-    }
-    text.push_str(case)?;
-    Ok(text)
-}
-
-fn try_case(alloc: Global, tally: &mut Tally, kind: &str, above: &[&str], case: &str) -> Done {
+/// Tries a case below its schemas.
+fn try_case(tally: &mut Tally, kind: &str, above: &[&str], case: &str) -> Done {
+    let alloc = tally.alloc;
     let Some((asked, wanted)) = case.split_once(" => ") else {
         return tally.refuse(case);
     };
-    let came = came_of(alloc, kind, above, asked)?;
-    let wanted = text_of(alloc, wanted)?;
-    let case = shown(alloc, above, case)?;
-    tally.count(alloc, case.as_str(), wanted.as_bytes(), came.as_bytes())
-}
-
-fn try_paragraph(alloc: Global, tally: &mut Tally, kind: &str, paragraph: &str) -> Done {
-    let rows = rows_of(alloc, paragraph)?;
-    let (above, cases) = rows.split_at(schemas_above(kind).min(rows.len()));
-    if cases.is_empty() {
-        return tally.refuse(paragraph);
+    let mut shown = String::new(alloc);
+    for schema in above {
+        writeln!(shown, "{schema}")?;
     }
-    for case in cases {
-        try_case(alloc, tally, kind, above, case)?;
-    }
-    Ok(())
+    shown.push_str(case)?;
+    let first = numbered_text(alloc, above.first().copied().unwrap_or(""))?;
+    let second = numbered_text(alloc, above.get(1).copied().unwrap_or(""))?;
+    let above = (first.as_str(), second.as_str());
+    let came = answer(alloc, kind, above, numbered_text(alloc, asked)?.as_str())?;
+    let wanted = numbered_text(alloc, wanted)?;
+    tally.tell(shown.as_str(), wanted.as_str(), Ok(came))
 }
 
 /// Tries the cases of a file of that kind.
-pub(crate) fn tally_of(alloc: Global, kind: &str, text: &str) -> Result<Tally, AllocError> {
-    let mut tally = Tally::new(alloc);
-    for paragraph in &paragraphs_of(alloc, text)? {
-        try_paragraph(alloc, &mut tally, kind, paragraph)?;
+pub(crate) fn try_cases(tally: &mut Tally, kind: &str, text: &str) -> Done {
+    for paragraph in &paragraphs_of(tally.alloc, text)? {
+        tally.begin(paragraph)?;
+        let rows = rows_of(tally.alloc, paragraph)?;
+        let (above, cases) = rows.split_at(schemas_above(kind).min(rows.len()));
+        if cases.is_empty() {
+            tally.refuse(paragraph)?;
+        }
+        for case in cases {
+            try_case(tally, kind, above, case)?;
+        }
     }
-    Ok(tally)
+    Ok(())
 }

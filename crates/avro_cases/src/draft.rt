@@ -119,21 +119,17 @@ impl Draft {
         let step = self.below(many - 1).saturating_add(1);
         let mut number = self.below(many);
         for _ in 0..many {
-            self.read_field(number)?;
+            let of = self.type_at(number);
+            match self.below(40) {
+                0..=3 => self.field('f', number, of, DEFAULT)?,
+                4..=7 => self.renamed(number, of, "")?,
+                8..=11 => self.field('h', number, of, DEFAULT)?,
+                12..=13 => {}
+                _ => self.field('f', number, of, "")?,
+            }
             number = number.saturating_add(step) % many;
         }
         self.put("]}")
-    }
-
-    fn read_field(&mut self, number: usize) -> Done {
-        let of = self.type_at(number);
-        match self.below(40) {
-            0..=3 => self.field('f', number, of, DEFAULT),
-            4..=7 => self.renamed(number, of, ""),
-            8..=11 => self.field('h', number, of, DEFAULT),
-            12..=13 => Ok(()),
-            _ => self.field('f', number, of, ""),
-        }
     }
 
     /// Some type without a name of its own, always of the same kind for the same number.
@@ -161,40 +157,29 @@ impl Draft {
     /// A union of so many records of a few of so many fields: of those that a long record reads, or
     /// of those that a record of many aliases may know.
     fn union_of(&mut self, many: usize, fields: usize, is_long: bool) -> Done {
+        let aliased = fields.saturating_mul(3).saturating_add(7);
+        let most = if is_long { fields.max(4) } else { aliased };
         self.put("[")?;
         for number in 0..many {
             self.comma()?;
             self.put(r#"{"type":"record","name":"k"#)?;
             write!(self.text, r#"{number}.R","fields":["#)?;
-            if is_long {
-                self.few(fields.max(4))?;
-            } else {
-                self.sparse(fields.saturating_mul(3).saturating_add(7))?;
+            let mut place = self.below(most);
+            for _ in 0..self.below(if is_long { 4 } else { 7 }) {
+                if is_long {
+                    let of = self.plain_type_at(place);
+                    self.field('f', place, of, "")?;
+                    place = place.saturating_add(1).checked_rem(most).unwrap_or(0);
+                } else {
+                    let is_double = self.below(400) == 0;
+                    let of = if is_double { r#""double""# } else { r#""int""# };
+                    self.field('f', place, of, "")?;
+                    place = place.saturating_add(1).saturating_add(self.below(3));
+                }
             }
             self.put("]}")?;
         }
         self.put("]")
-    }
-
-    fn few(&mut self, many: usize) -> Done {
-        let mut number = self.below(many);
-        for _ in 0..self.below(4) {
-            let of = self.plain_type_at(number);
-            self.field('f', number, of, "")?;
-            number = number.saturating_add(1).checked_rem(many).unwrap_or(0);
-        }
-        Ok(())
-    }
-
-    fn sparse(&mut self, most: usize) -> Done {
-        let mut number = self.below(most);
-        for _ in 0..self.below(7) {
-            let is_double = self.below(400) == 0;
-            let of = if is_double { r#""double""# } else { r#""int""# };
-            self.field('f', number, of, "")?;
-            number = number.saturating_add(1).saturating_add(self.below(3));
-        }
-        Ok(())
     }
 
     /// A record of so many fields, each with aliases up to so many, some of them twice.
@@ -226,6 +211,7 @@ impl Draft {
     }
 
     fn union(&mut self, letter: char, field: char, many: usize) -> Done {
+        let lasts = (many / 4).saturating_add(1);
         let unnamed = self.below(many);
         self.put(r#"["null""#)?;
         for number in 0..many {
@@ -233,10 +219,17 @@ impl Draft {
                 let part = self.one_of(UNNAMED, 5);
                 self.put(part)?;
             }
-            let last = self.below((many / 4).saturating_add(1));
+            let last = self.below(lasts);
             write!(self.text, r#",{{"name":"{letter}{field}{number}.T{last}""#)?;
             self.shape(last)?;
-            self.aliases(field, many)?;
+            if self.below(3) != 0 {
+                let number = self.below(many);
+                let (last, other) = (self.below(lasts), self.below(lasts));
+                write!(
+                    self.text,
+                    r#","aliases":["T{other}","w{field}{number}.T{last}"]"#
+                )?;
+            }
             self.put("}")?;
         }
         self.put("]")
@@ -254,21 +247,6 @@ impl Draft {
             1 => self.put(r#","type":"enum","symbols":["A"]"#),
             size => write!(self.text, r#","type":"fixed","size":{size}"#),
         }
-    }
-
-    /// Aliases, some of which are names of a writer's types.
-    fn aliases(&mut self, field: char, many: usize) -> Done {
-        if self.below(3) == 0 {
-            return Ok(());
-        }
-        let lasts = (many / 4).saturating_add(1);
-        let number = self.below(many);
-        let last = self.below(lasts);
-        let other = self.below(lasts);
-        write!(
-            self.text,
-            r#","aliases":["T{other}","w{field}{number}.T{last}"]"#
-        )
     }
 
     /// Draws the next schema of that kind and of those sizes; of no other kind there is one.

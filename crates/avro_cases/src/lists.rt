@@ -1,7 +1,7 @@
 // Lists of either length, whose items are found by name, at texts and at a struct with a name.
 use crate::Answer;
-use avro_resolve::base_text::Text;
-use avro_resolve::named_list::{Named, NamedList};
+use base_text::Text;
+use named_list::{Named, NamedList};
 use std::alloc::{AllocError, Global};
 
 #[derive(Drop)]

@@ -29,17 +29,15 @@ mod plain;
 mod reading;
 mod schemas;
 mod values;
-mod written;
 
-use std::alloc::AllocError;
 use std::io;
-use test_tools::print_cases;
+use test_tools::{Made, print_cases};
 
 /// What is said of a case, or that memory was refused.
-type Answer = Result<String, AllocError>;
+type Answer = Made<String>;
 
 /// That something is done, or that memory was refused.
-type Done = Result<(), AllocError>;
+type Done = Made<()>;
 
 static KINDS: [&str; 15] = [
     "schemas", "defaults", "normals", "nodes", "samples", "sizes", "hashes", "values", "fits",
@@ -47,5 +45,5 @@ static KINDS: [&str; 15] = [
 ];
 
 fn main(rt: HostRuntime) -> io::Result<()> {
-    print_cases(&rt, &KINDS, cases::tally_of)
+    print_cases(&rt, &KINDS, cases::try_cases)
 }

@@ -1,6 +1,6 @@
 // The nodes of a schema, in words.
 use crate::{Answer, Done};
-use avro_resolve::avro_schema::{FullName, Node, NodeId, Schema};
+use avro_schema::{FullName, Node, NodeId, Schema};
 use std::alloc::Global;
 
 /// The name and the aliases of a record, an enum or a fixed type.

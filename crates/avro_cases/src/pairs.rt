@@ -2,9 +2,9 @@
 use crate::Answer;
 use crate::plain::plain_verdict;
 use crate::schemas::NO_SCHEMA;
-use avro_resolve::avro_schema::{NodeId, Schema};
-use avro_resolve::base_text::{Listed, Text};
 use avro_resolve::{ClashKind, Hop, Trail, Verdict, matches, resolve, resolve_counted};
+use avro_schema::{NodeId, Schema};
+use base_text::{Listed, Text};
 use std::alloc::{AllocError, Global};
 
 /// A verdict, with its trail. A trail that is shown is one.

@@ -3,8 +3,8 @@
 use crate::nodes::{heading, is_same, kind_of};
 use crate::{Answer, Done};
 use avro_data::node_at;
-use avro_resolve::avro_schema::{Field, Node, NodeId, Primitive, Schema};
-use avro_resolve::base_text::Text;
+use avro_schema::{Field, Node, NodeId, Primitive, Schema};
+use base_text::Text;
 use std::alloc::{AllocError, Global};
 use std::collections::BTreeSet;
 

@@ -1,7 +1,7 @@
 // Values as the cases write them.
 use crate::Done;
 use avro_data::Data;
-use avro_resolve::base_text::Text;
+use base_text::Text;
 use std::alloc::{AllocError, Global};
 
 /// A list, a map or a record that isn't closed yet.

@@ -1,6 +1,6 @@
 // What the rules of schemas say of texts.
 use crate::Answer;
-use avro_resolve::avro_schema::{Schema, SchemaError};
+use avro_schema::{Schema, SchemaError};
 use std::alloc::Global;
 
 pub(crate) const NO_SCHEMA: &str = "no schema";

@@ -3,7 +3,7 @@ use crate::Answer;
 use crate::reading::value_of;
 use crate::schemas::NO_SCHEMA;
 use avro_data::{Data, Piece, PiecedText, sample};
-use avro_resolve::avro_schema::{NodeId, Schema};
+use avro_schema::{NodeId, Schema};
 use std::alloc::Global;
 
 const FRONT: &str = "value ";

@@ -1,7 +1,8 @@
 // Batches of records.
 use base_text::Text;
 use reg_records::{Key, Record, ValueText};
-use std::alloc::{AllocError, Global};
+use std::alloc::Global;
+use test_tools::Made;
 
 /// That many records of no operation, the first at that offset, each with that text or without a value.
 pub(crate) fn batch_of(
@@ -9,7 +10,7 @@ pub(crate) fn batch_of(
     first: u64,
     count: u64,
     text: Option<&str>,
-) -> Result<Vec<Record>, AllocError> {
+) -> Made<Vec<Record>> {
     let mut batch = Vec::new(alloc);
     for k in 0..count {
         batch.push(Record {

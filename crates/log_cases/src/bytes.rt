@@ -2,14 +2,14 @@
 ghost use Rattle.std.specs.Prelude.{◌≤◌};
 ghost use Rattle.reg_records.specs.declared.limits.TheConstants.{OFFSET_LIMIT};
 
-use crate::form::{Came, CaseError, Form, number_in, shown};
+use crate::form::{Came, Form, shown};
 use reg_compaction::{
     ToFloorError, compacted, compacted_in_order, compacted_to, compacted_to_in_order,
 };
 use reg_inspection::{cause_of, obstacles};
 use reg_records::{Device, Log, OFFSET_LIMIT, read_log};
-use std::alloc::{AllocError, Global};
-use test_tools::{bytes_of, cut};
+use std::alloc::Global;
+use test_tools::{CaseError, Made, bytes_of, cut, number_of};
 
 /// What a command leaves of a log.
 fn left_of(alloc: Global, command: &str, floor: u64, log: &[u8]) -> Result<Vec<u8>, ToFloorError> {
@@ -31,7 +31,7 @@ fn left(alloc: Global, command: &str, floor: u64, log: &str) -> Came {
 }
 
 /// Why each record can't be read, a line each.
-fn causes(alloc: Global, log: &Log) -> Result<String, AllocError> {
+fn causes(alloc: Global, log: &Log) -> Made<String> {
     let mut told = String::new(alloc);
     for record in &log.records {
         match cause_of(alloc, record)? {
@@ -43,7 +43,7 @@ fn causes(alloc: Global, log: &Log) -> Result<String, AllocError> {
 }
 
 /// What keeps a log from being taken over, a line each.
-fn obstacles_of(alloc: Global, log: &Log) -> Result<String, AllocError> {
+fn obstacles_of(alloc: Global, log: &Log) -> Made<String> {
     let mut told = String::new(alloc);
     for obstacle in &obstacles(alloc, log)? {
         writeln!(told, "{}", obstacle.text(alloc)?)?;
@@ -73,7 +73,7 @@ impl Form for Bytes {
         let (floor, log) = cut(rest);
         match command {
             "compact" | "order" => left(alloc, command, 0, rest),
-            "compact-to" | "order-to" => left(alloc, command, number_in(floor)?, log),
+            "compact-to" | "order-to" => left(alloc, command, number_of(floor)?, log),
             _ => said(alloc, command, &bytes_of(alloc, rest)?),
         }
     }

@@ -5,12 +5,12 @@ ghost use Rattle.reg_journal.specs.Lines.{said, with_batch};
 ghost use Rattle.reg_journal.specs.Memory.{memory_bytes};
 
 use crate::batches::batch_of;
-use crate::form::{Came, CaseError, Form, number_in, shown};
+use crate::form::{Came, Form, shown};
 use reg_compaction::{Aside, Opens, compact_superseded, open_aside};
 use reg_journal::{AppendError, DiskError, Journal, JournalOpenError, Memory, open_journal};
 use reg_records::{OFFSET_LIMIT, Record, has_line};
 use std::alloc::Global;
-use test_tools::{bytes_of, cut};
+use test_tools::{CaseError, bytes_of, cut, number_of};
 
 /// Opens a file in memory that has something, once.
 #[derive(Drop)]
@@ -63,53 +63,35 @@ fn opened(alloc: Global, file: &str) -> Came {
     Ok(format!(in alloc; "{} & {} & {}", found.as_str(), left.as_str(), put.as_str())?)
 }
 
-/// How a batch is appended.
-#[derive(Clone, Copy)]
-struct How {
-    /// How many lines are to stay free behind it.
-    free: u64,
-    /// Whether the file keeps its name.
-    is_named: bool,
-}
-
-/// No line has to stay free.
-const NAMED: How = How {
-    free: 0,
-    is_named: true,
-};
-
-const UNNAMED: How = How {
-    free: 0,
-    is_named: false,
-};
-
-/// Opens a file in memory and appends a batch: then it says what it said, and the batch.
+/// Opens a file in memory, which keeps its name or not, and appends a batch behind which so many lines stay free: then it says what it
+/// said, and the batch.
 fn appended(
     alloc: Global,
     bytes: Vec<u8>,
     batch: &[Record],
-    how: How,
+    free: u64,
+    is_named: bool,
 ) -> Result<Journal<Memory>, AppendError>
     requires { All HasLine batch.now }
     ensures { IfOk result (λ journal. said (memory_bytes journal.disk) ≡ with_batch batch.now (said bytes.items)) }
 {
     let mut disk = Memory::new(alloc, bytes);
-    disk.rename(how.is_named);
+    disk.rename(is_named);
     let (_log, journal) = match open_journal(alloc, disk) {
         Ok(found) => found,
         Err(_) => return Err(AppendError::Failed),
     };
     let mut journal = journal;
-    match journal.append(alloc, batch, how.free) {
+    match journal.append(alloc, batch, free) {
         Ok(()) => Ok(journal),
         Err(error) => Err(error),
     }
 }
 
 /// A file with a batch.
-fn grown(alloc: Global, file: Vec<u8>, batch: &[Record], how: How) -> Came {
+fn grown(alloc: Global, file: Vec<u8>, batch: &[Record], free: u64, is_named: bool) -> Came {
     if batch.iter().all(|record| has_line(record)) {
-        return match appended(alloc, file, batch, how) {
+        return match appended(alloc, file, batch, free, is_named) {
             Ok(journal) => shown(alloc, journal.disk().bytes()),
             Err(error) => Ok(format!(in alloc; "{error:?}")?),
         };
@@ -117,26 +99,11 @@ fn grown(alloc: Global, file: Vec<u8>, batch: &[Record], how: How) -> Came {
     Err(CaseError::NotUnderstood)
 }
 
-fn grown_by(alloc: Global, asked: &str, how: How) -> Came {
+fn grown_by(alloc: Global, asked: &str, free: u64, is_named: bool) -> Came {
     let (first, rest) = cut(asked);
     let (count, file) = cut(rest);
-    let batch = batch_of(alloc, number_in(first)?, number_in(count)?, Some("1"))?;
-    grown(alloc, bytes_of(alloc, file)?, &batch, how)
-}
-
-/// A batch behind which so many lines are to stay free.
-fn grown_leaving(alloc: Global, asked: &str) -> Came {
-    let (free, rest) = cut(asked);
-    let free = number_in(free)?;
-    grown_by(alloc, rest, How { free, ..NAMED })
-}
-
-fn grown_otherwise(alloc: Global, command: &str, asked: &str) -> Came {
-    match command {
-        "append-unnamed" => grown_by(alloc, asked, UNNAMED),
-        "append-leaving" => grown_leaving(alloc, asked),
-        _ => Err(CaseError::NotUnderstood),
-    }
+    let batch = batch_of(alloc, number_of(first)?, number_of(count)?, Some("1"))?;
+    grown(alloc, bytes_of(alloc, file)?, &batch, free, is_named)
 }
 
 /// What a file's log is like.
@@ -166,7 +133,7 @@ fn stands(alloc: Global, journal: &Journal<Memory>) -> Came {
 /// Compacts a file in its place, where so many lines are superseded.
 fn shrunk(alloc: Global, floor: Option<u64>, asked: &str) -> Came {
     let (least, file) = cut(asked);
-    let least = number_in(least)?;
+    let least = number_of(least)?;
     let disk = Memory::new(alloc, bytes_of(alloc, file)?);
     let Ok((_log, journal)) = open_journal(alloc, disk) else {
         return Err(CaseError::NotUnderstood);
@@ -191,14 +158,16 @@ pub(crate) struct Journals;
 impl Form for Journals {
     fn came(&mut self, alloc: Global, asked: &str) -> Came {
         let (command, rest) = cut(asked);
-        let (floor, counted) = cut(rest);
+        let (number, counted) = cut(rest);
         match command {
             "open" => opened(alloc, rest),
             "find" => found(alloc, rest),
-            "append" => grown_by(alloc, rest, NAMED),
+            "append" => grown_by(alloc, rest, 0, true),
+            "append-unnamed" => grown_by(alloc, rest, 0, false),
+            "append-leaving" => grown_by(alloc, counted, number_of(number)?, true),
             "shrink" => shrunk(alloc, None, rest),
-            "shrink-to" => shrunk(alloc, Some(number_in(floor)?), counted),
-            _ => grown_otherwise(alloc, command, rest),
+            "shrink-to" => shrunk(alloc, Some(number_of(number)?), counted),
+            _ => Err(CaseError::NotUnderstood),
         }
     }
 }

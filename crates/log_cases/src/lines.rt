@@ -1,10 +1,11 @@
 // Command lines, and what they come to.
 use crate::form::{Came, Form};
 use log_arguments::read_arguments;
-use std::alloc::{AllocError, Global};
+use std::alloc::Global;
+use test_tools::Made;
 
 /// What a command line asks for, or the whole text of why it is refused.
-fn outcome_of(alloc: Global, line: &str) -> Result<String, AllocError> {
+fn outcome_of(alloc: Global, line: &str) -> Made<String> {
     let mut words = Vec::new(alloc);
     for word in line.split(' ') {
         words.push(String::from_str(alloc, word)?)?;

@@ -48,9 +48,8 @@ use crate::metrics::Metrics;
 use crate::pages::Pages;
 use crate::replies::try_replies;
 use crate::tails::try_tails;
-use std::alloc::{AllocError, Global};
 use std::io;
-use test_tools::{Tally, print_cases};
+use test_tools::{Made, Tally, print_cases};
 
 /// The endings of the files that hold cases.
 static KINDS: [&str; 8] = [
@@ -58,25 +57,20 @@ static KINDS: [&str; 8] = [
 ];
 
 /// Tries the cases of a file.
-fn add_cases(alloc: Global, tally: &mut Tally, kind: &str, text: &str) -> Result<(), AllocError> {
+fn try_file(tally: &mut Tally, kind: &str, text: &str) -> Made<()> {
+    let alloc = tally.alloc;
     match kind {
-        "bytes" => try_lines(alloc, tally, text, &mut Bytes),
-        "journals" => try_lines(alloc, tally, text, &mut Journals),
-        "lines" => try_lines(alloc, tally, text, &mut Lines),
-        "messages" => try_lines(alloc, tally, text, &mut Talk),
-        "metrics" => try_lines(alloc, tally, text, &mut Metrics::new(alloc)?),
-        "pages" => try_lines(alloc, tally, text, &mut Pages),
-        "replies" => try_replies(alloc, tally, text),
-        _ => try_tails(alloc, tally, text),
+        "bytes" => try_lines(tally, text, &mut Bytes),
+        "journals" => try_lines(tally, text, &mut Journals),
+        "lines" => try_lines(tally, text, &mut Lines),
+        "messages" => try_lines(tally, text, &mut Talk),
+        "metrics" => try_lines(tally, text, &mut Metrics::new(alloc)?),
+        "pages" => try_lines(tally, text, &mut Pages),
+        "replies" => try_replies(tally, text),
+        _ => try_tails(tally, text),
     }
 }
 
-fn tally_of(alloc: Global, kind: &str, text: &str) -> Result<Tally, AllocError> {
-    let mut tally = Tally::new(alloc);
-    add_cases(alloc, &mut tally, kind, text)?;
-    Ok(tally)
-}
-
 fn main(rt: HostRuntime) -> io::Result<()> {
-    print_cases(&rt, &KINDS, tally_of)
+    print_cases(&rt, &KINDS, try_file)
 }

@@ -1,10 +1,10 @@
 // What an adapter says, and what it is asked for.
 use crate::batches::batch_of;
-use crate::form::{Came, CaseError, Form, number_in, shown};
+use crate::form::{Came, Form, shown};
 use reg_adapter::{AdapterAnswer, AdapterMessage, MessageError, Messages, request};
 use reg_records::{Device, Read, has_line, read_log};
-use std::alloc::{AllocError, Global};
-use test_tools::{bytes_of, cut};
+use std::alloc::Global;
+use test_tools::{CaseError, Made, bytes_of, cut, number_of};
 
 /// A word for an answer.
 fn answer_word(answer: AdapterAnswer) -> &'static str {
@@ -17,7 +17,7 @@ fn answer_word(answer: AdapterAnswer) -> &'static str {
 }
 
 /// Adds the offsets of a batch, each with a star where its line is foreign.
-fn add_batch(words: &mut String, reads: &[Read]) -> Result<(), AllocError> {
+fn add_batch(words: &mut String, reads: &[Read]) -> Made<()> {
     words.push_str("batch")?;
     for read in reads {
         match read {
@@ -29,7 +29,7 @@ fn add_batch(words: &mut String, reads: &[Read]) -> Result<(), AllocError> {
 }
 
 /// Adds what was told.
-fn add_told(words: &mut String, told: &AdapterMessage) -> Result<(), AllocError> {
+fn add_told(words: &mut String, told: &AdapterMessage) -> Made<()> {
     match told {
         AdapterMessage::Batch(reads) => add_batch(words, reads.as_slice())?,
         AdapterMessage::Answer(answer) => words.push_str(answer_word(*answer))?,
@@ -67,7 +67,7 @@ fn add_pieces(
 }
 
 /// What comes of a text in pieces of so many bytes.
-fn words_of(alloc: Global, text: &[u8], size: usize) -> Result<String, AllocError> {
+fn words_of(alloc: Global, text: &[u8], size: usize) -> Made<String> {
     let mut words = String::new(alloc);
     match add_pieces(&mut words, &mut Messages::new(alloc), text, size) {
         Ok(()) => words.push_str("ends")?,
@@ -77,7 +77,7 @@ fn words_of(alloc: Global, text: &[u8], size: usize) -> Result<String, AllocErro
 }
 
 /// What comes of a text given whole, and in what pieces something else comes of it.
-fn said(alloc: Global, text: &[u8]) -> Result<String, AllocError> {
+fn said(alloc: Global, text: &[u8]) -> Made<String> {
     let whole = words_of(alloc, text, text.len())?;
     for size in 1..text.len() {
         let words = words_of(alloc, text, size)?;
@@ -103,7 +103,7 @@ fn based(alloc: Global, text: &[u8]) -> Came {
 }
 
 /// How a look at messages ends.
-fn looked(alloc: Global, messages: &mut Messages) -> Result<String, AllocError> {
+fn looked(alloc: Global, messages: &mut Messages) -> Made<String> {
     match add_words(&mut String::new(alloc), messages) {
         Ok(()) => String::from_str(alloc, "goes on"),
         Err(error) => format!(in alloc; "{error}"),
@@ -111,7 +111,7 @@ fn looked(alloc: Global, messages: &mut Messages) -> Result<String, AllocError> 
 }
 
 /// What comes of a text that hasn't ended yet, which is looked at twice.
-fn unended(alloc: Global, text: &[u8]) -> Result<String, AllocError> {
+fn unended(alloc: Global, text: &[u8]) -> Made<String> {
     let mut messages = Messages::new(alloc);
     messages.take(text)?;
     let first = looked(alloc, &mut messages)?;
@@ -122,7 +122,7 @@ fn unended(alloc: Global, text: &[u8]) -> Result<String, AllocError> {
 /// What asks for so many records.
 fn requested(alloc: Global, asked: &str) -> Came {
     let (first, count) = cut(asked);
-    let records = batch_of(alloc, number_in(first)?, number_in(count)?, None)?;
+    let records = batch_of(alloc, number_of(first)?, number_of(count)?, None)?;
     if records.iter().all(|record| has_line(record)) {
         return match request(alloc, &records) {
             Ok(text) => shown(alloc, &text),

@@ -1,5 +1,5 @@
 // Numbers on a page, what the system and an adapter say, and requests for pages.
-use crate::form::{Came, CaseError, Form, shown};
+use crate::form::{Came, Form, shown};
 use crate::replies::WORDS;
 use exposition::{Family, page_text};
 use reg_meters::{ConnectionTally, Ending, RequestClass, StatusClass, Traffic};
@@ -8,8 +8,8 @@ use reg_metrics::{
     WordFinder, adapter_families, answer_to, asked_in, batch_families, file_families,
     line_families, numbers_in, process_families, stage_families, started_in, traffic_families,
 };
-use std::alloc::{AllocError, Global};
-use test_tools::{bytes_of, cut};
+use std::alloc::Global;
+use test_tools::{CaseError, Made, bytes_of, cut};
 
 static CLASSES: [RequestClass; 4] = [
     RequestClass::Lookup,
@@ -78,7 +78,7 @@ fn count_log(batches: &BatchMeters, file: &FileMeters) {
 }
 
 /// All families, each with its numbers.
-fn families(alloc: Global) -> Result<Vec<Family>, AllocError> {
+fn families(alloc: Global) -> Made<Vec<Family>> {
     let mut out = Vec::new(alloc);
     stage_families(alloc, "1.2", "keep", Stage::Lost, &mut out)?;
     let traffic = Traffic::new();
@@ -116,7 +116,7 @@ fn number_on<'p>(page: &'p str, name: &str) -> &'p str {
 }
 
 /// What the system says of a process.
-fn process_in(alloc: Global, stat: &str) -> Result<String, AllocError> {
+fn process_in(alloc: Global, stat: &str) -> Made<String> {
     let Some(it) = numbers_in(stat) else {
         return String::from_str(alloc, "none");
     };
@@ -125,7 +125,7 @@ fn process_in(alloc: Global, stat: &str) -> Result<String, AllocError> {
 }
 
 /// When the system started.
-fn start_in(alloc: Global, stat: &str) -> Result<String, AllocError> {
+fn start_in(alloc: Global, stat: &str) -> Made<String> {
     match started_in(stat) {
         Some(start) => format!(in alloc; "{start}"),
         None => String::from_str(alloc, "none"),
@@ -142,7 +142,7 @@ fn name_of(found: AdapterWord) -> &'static str {
 }
 
 /// Adds the words in a piece of what an adapter says.
-fn add_words(words: &mut String, finder: &mut WordFinder, piece: &[u8]) -> Result<(), AllocError> {
+fn add_words(words: &mut String, finder: &mut WordFinder, piece: &[u8]) -> Made<()> {
     let mut rest = piece;
     for _line in 0..piece.len() {
         if rest.is_empty() {
@@ -158,7 +158,7 @@ fn add_words(words: &mut String, finder: &mut WordFinder, piece: &[u8]) -> Resul
 }
 
 /// The words in what an adapter says, a line each.
-fn words_in(alloc: Global, pieces: &str) -> Result<String, AllocError> {
+fn words_in(alloc: Global, pieces: &str) -> Made<String> {
     let mut finder = WordFinder::new();
     let mut words = String::new(alloc);
     for piece in pieces.split(" & ") {
@@ -198,7 +198,7 @@ pub(crate) struct Metrics {
 
 impl Metrics {
     /// The page of all families.
-    pub(crate) fn new(alloc: Global) -> Result<Metrics, AllocError> {
+    pub(crate) fn new(alloc: Global) -> Made<Metrics> {
         let page = page_text(alloc, &families(alloc)?)?;
         Ok(Metrics {
             page: String::from_utf8_lossy(alloc, page.as_slice())?,

@@ -1,11 +1,11 @@
 // Families of pages. Their names and texts are the program's own, so no file can have them.
-use crate::form::{Came, CaseError, Form, number_in};
+use crate::form::{Came, Form};
 use base_text::Listed;
 use exposition::{
     Family, Fixed, LabelName, LabelPair, Name, Number, Sample, Samples, Series, page_text,
 };
-use std::alloc::{AllocError, Global};
-use test_tools::cut;
+use std::alloc::Global;
+use test_tools::{CaseError, Made, cut, number_of};
 
 fn label(name: LabelName, value: &'static str) -> LabelPair {
     LabelPair {
@@ -15,17 +15,13 @@ fn label(name: LabelName, value: &'static str) -> LabelPair {
 }
 
 /// One sample.
-fn sample(
-    alloc: Global,
-    labels: Vec<LabelPair>,
-    number: Number,
-) -> Result<Listed<Sample>, AllocError> {
+fn sample(alloc: Global, labels: Vec<LabelPair>, number: Number) -> Made<Listed<Sample>> {
     let labels = Listed::from(labels);
     Ok(Listed::from(vec![in alloc; Sample { labels, number }]?))
 }
 
 /// Requests by method and status, as the documentation has them, without their times.
-fn requests(alloc: Global) -> Result<Family, AllocError> {
+fn requests(alloc: Global) -> Made<Family> {
     let mut samples = Vec::new(alloc);
     for (code, count) in [("200", 1027), ("400", 3)] {
         let method = label(LabelName::of("method"), "post");
@@ -43,7 +39,7 @@ fn requests(alloc: Global) -> Result<Family, AllocError> {
 }
 
 /// The documentation's labels that have to be escaped.
-fn escapes(alloc: Global) -> Result<Family, AllocError> {
+fn escapes(alloc: Global) -> Made<Family> {
     let path = label(LabelName::of("path"), "C:\\DIR\\FILE.TXT");
     let error = label(LabelName::of("error"), "Cannot find file:\n\"FILE.TXT\"");
     let labels = vec![in alloc; path, error]?;
@@ -56,12 +52,7 @@ fn escapes(alloc: Global) -> Result<Family, AllocError> {
 }
 
 /// A histogram of one series with the documentation's bounds, or with no counts where there aren't six.
-fn histogram(
-    alloc: Global,
-    labels: Vec<LabelPair>,
-    counts: Vec<u64>,
-    sum: Number,
-) -> Result<Family, AllocError> {
+fn histogram(alloc: Global, labels: Vec<LabelPair>, counts: Vec<u64>, sum: Number) -> Made<Family> {
     let mut series = Vec::new(alloc);
     if counts.len() == 6 {
         series.push(Series::of(
@@ -79,20 +70,20 @@ fn histogram(
 }
 
 /// The documentation's histogram.
-fn durations(alloc: Global) -> Result<Family, AllocError> {
+fn durations(alloc: Global) -> Made<Family> {
     let counts = vec![in alloc; 24054, 9390, 66948, 28997, 4599, 10332]?;
     histogram(alloc, Vec::new(alloc), counts, Number::whole(53423))
 }
 
 /// The greatest counts, under a label.
-fn greatest(alloc: Global) -> Result<Family, AllocError> {
+fn greatest(alloc: Global) -> Made<Family> {
     let counts = vec![in alloc; u64::MAX; 6]?;
     let labels = vec![in alloc; label(LabelName::of("class"), "lookup")]?;
     histogram(alloc, labels, counts, Number::seconds(u64::MAX))
 }
 
 /// A number of seconds, given in microseconds.
-fn seconds(alloc: Global, microseconds: u64) -> Result<Family, AllocError> {
+fn seconds(alloc: Global, microseconds: u64) -> Made<Family> {
     let samples = sample(alloc, Vec::new(alloc), Number::seconds(microseconds))?;
     Ok(Family {
         name: Name::of("t"),
@@ -102,13 +93,13 @@ fn seconds(alloc: Global, microseconds: u64) -> Result<Family, AllocError> {
 }
 
 /// The text of one family.
-fn text_of(alloc: Global, family: Family) -> Result<String, AllocError> {
+fn text_of(alloc: Global, family: Family) -> Made<String> {
     let page = page_text(alloc, &vec![in alloc; family]?)?;
     String::from_utf8_lossy(alloc, page.as_slice())
 }
 
 /// The number on the page of a gauge.
-fn seconds_text(alloc: Global, microseconds: u64) -> Result<String, AllocError> {
+fn seconds_text(alloc: Global, microseconds: u64) -> Made<String> {
     let text = text_of(alloc, seconds(alloc, microseconds)?)?;
     let line = text
         .as_str()
@@ -128,7 +119,7 @@ impl Form for Pages {
             ("family", "escapes") => Ok(text_of(alloc, escapes(alloc)?)?),
             ("family", "durations") => Ok(text_of(alloc, durations(alloc)?)?),
             ("family", "greatest") => Ok(text_of(alloc, greatest(alloc)?)?),
-            ("seconds", number) => Ok(seconds_text(alloc, number_in(number)?)?),
+            ("seconds", number) => Ok(seconds_text(alloc, number_of(number)?)?),
             _ => Err(CaseError::NotUnderstood),
         }
     }

@@ -1,8 +1,8 @@
 // What an adapter replies, and how that is counted.
-use crate::form::{Came, CaseError, Form, number_in, try_lines};
+use crate::form::{Came, Form, try_lines};
 use reg_metrics::{AdapterMeters, AdapterReply, AdapterWord, BatchMeters};
-use std::alloc::{AllocError, Global};
-use test_tools::{Tally, cut, paragraphs_of};
+use std::alloc::Global;
+use test_tools::{CaseError, Made, Said, Tally, cut, number_of, paragraphs_of};
 
 /// The words of an adapter.
 pub(crate) static WORDS: [(&str, AdapterWord); 5] = [
@@ -13,7 +13,7 @@ pub(crate) static WORDS: [(&str, AdapterWord); 5] = [
     ("lost", AdapterWord::Reply(AdapterReply::Lost)),
 ];
 
-fn word_in(text: &str) -> Result<AdapterWord, CaseError> {
+fn word_in(text: &str) -> Said<AdapterWord> {
     for (name, word) in &WORDS {
         if *name == text {
             return Ok(*word);
@@ -23,8 +23,8 @@ fn word_in(text: &str) -> Result<AdapterWord, CaseError> {
 }
 
 /// So many seconds, in microseconds.
-fn moment_in(text: &str) -> Result<u64, CaseError> {
-    Ok(number_in(text)?.saturating_mul(1_000_000))
+fn moment_in(text: &str) -> Said<u64> {
+    Ok(number_of(text)?.saturating_mul(1_000_000))
 }
 
 /// The numbers of an adapter, and those of batches.
@@ -36,7 +36,7 @@ struct Replies {
 
 impl Replies {
     /// Asks for a check or for a batch, and hears a word 100 microseconds later.
-    fn exchange(&self, is_check: bool, told: &str) -> Result<(), CaseError> {
+    fn exchange(&self, is_check: bool, told: &str) -> Said<()> {
         let (second, word) = cut(told);
         let (now, word) = (moment_in(second)?, word_in(word)?);
         self.adapter.ask(is_check, now);
@@ -46,15 +46,15 @@ impl Replies {
     }
 
     /// Hears a word at a second, which is so many microseconds since 1970.
-    fn hear(&self, told: &str) -> Result<(), CaseError> {
+    fn hear(&self, told: &str) -> Said<()> {
         let (second, rest) = cut(told);
         let (date, word) = cut(rest);
-        let (now, date, word) = (moment_in(second)?, number_in(date)?, word_in(word)?);
+        let (now, date, word) = (moment_in(second)?, number_of(date)?, word_in(word)?);
         self.adapter.hear(&self.batches, word, now, date);
         Ok(())
     }
 
-    fn batch_counts(&self, alloc: Global) -> Result<String, AllocError> {
+    fn batch_counts(&self, alloc: Global) -> Made<String> {
         let it = &self.batches;
         let (kept, overtaken) = (it.kept.count(), it.overtaken.count());
         let (declined, lost) = (it.declined.count(), it.lost.count());
@@ -64,7 +64,7 @@ impl Replies {
         )
     }
 
-    fn check_counts(&self, alloc: Global) -> Result<String, AllocError> {
+    fn check_counts(&self, alloc: Global) -> Made<String> {
         let it = &self.adapter;
         let (kept, behind, declined) = (it.kept.count(), it.behind.count(), it.declined.count());
         format!(in alloc; "kept {kept}, behind {behind}, declined {declined}")
@@ -90,13 +90,14 @@ impl Form for Replies {
 }
 
 /// Tries each paragraph, from new numbers on.
-pub(crate) fn try_replies(alloc: Global, tally: &mut Tally, text: &str) -> Result<(), AllocError> {
-    for paragraph in &paragraphs_of(alloc, text)? {
+pub(crate) fn try_replies(tally: &mut Tally, text: &str) -> Made<()> {
+    for paragraph in &paragraphs_of(tally.alloc, text)? {
+        tally.begin(paragraph)?;
         let mut replies = Replies {
             adapter: AdapterMeters::new(),
             batches: BatchMeters::new(),
         };
-        try_lines(alloc, tally, paragraph, &mut replies)?;
+        try_lines(tally, paragraph, &mut replies)?;
     }
     Ok(())
 }

@@ -2,12 +2,12 @@
 ghost use Rattle.std.specs.Prelude.{IfOk};
 ghost use Rattle.reg_tail.specs.Tail.{HasGiven};
 
-use crate::form::{Came, CaseError, Form, number_in, shown, try_lines};
+use crate::form::{Came, Form, shown, try_lines};
 use crate::page::Page;
 use reg_tail::{Source, Tail, TailError, write_begun, write_look, write_more};
-use std::alloc::{AllocError, Global};
+use std::alloc::Global;
 use std::io::{self, ErrorKind, Write};
-use test_tools::{Tally, bytes_of, cut, paragraphs_of};
+use test_tools::{CaseError, Made, Tally, bytes_of, cut, number_of, paragraphs_of};
 
 /// A writer that may fail to take bytes, or take them all and then fail to hand them on.
 #[derive(Drop)]
@@ -157,10 +157,10 @@ impl Form for Scene {
             "file" => self.page.bytes = bytes_of(alloc, rest)?,
             "renamed" => self.page.other = Some(bytes_of(alloc, rest)?),
             "fails" => return self.fail(alloc, rest),
-            "begin" => return self.begin(alloc, number_in(rest)?),
+            "begin" => return self.begin(alloc, number_of(rest)?),
             "more" => return self.more(alloc),
             "look" => return self.look(alloc),
-            "both" => return self.both(alloc, number_in(rest)?),
+            "both" => return self.both(alloc, number_of(rest)?),
             "syncs" => return self.synced(alloc),
             _ => return Err(CaseError::NotUnderstood),
         }
@@ -182,9 +182,10 @@ fn new_scene(alloc: Global) -> Scene {
 }
 
 /// Tries each paragraph, with a file of its own.
-pub(crate) fn try_tails(alloc: Global, tally: &mut Tally, text: &str) -> Result<(), AllocError> {
-    for paragraph in &paragraphs_of(alloc, text)? {
-        try_lines(alloc, tally, paragraph, &mut new_scene(alloc))?;
+pub(crate) fn try_tails(tally: &mut Tally, text: &str) -> Made<()> {
+    for paragraph in &paragraphs_of(tally.alloc, text)? {
+        tally.begin(paragraph)?;
+        try_lines(tally, paragraph, &mut new_scene(tally.alloc))?;
     }
     Ok(())
 }

@@ -1,19 +1,19 @@
 // What is asked of a registry, and its answers.
 use reg_fold::{Entry, Registry};
-use std::alloc::AllocError;
+use test_tools::Made;
 
-fn push_number(told: &mut String, number: Option<u64>) -> Result<(), AllocError> {
+fn push_number(told: &mut String, number: Option<u64>) -> Made<()> {
     match number {
         Some(number) => write!(told, "{number}"),
         None => told.push_str("none"),
     }
 }
 
-fn push_small(told: &mut String, number: Option<u32>) -> Result<(), AllocError> {
+fn push_small(told: &mut String, number: Option<u32>) -> Made<()> {
     push_number(told, number.map(u64::from))
 }
 
-fn push_versions(told: &mut String, entries: &[&Entry]) -> Result<(), AllocError> {
+fn push_versions(told: &mut String, entries: &[&Entry]) -> Made<()> {
     if entries.is_empty() {
         return told.push_str("none");
     }
@@ -26,7 +26,7 @@ fn push_versions(told: &mut String, entries: &[&Entry]) -> Result<(), AllocError
 }
 
 /// Adds the offset and the text of what an id names, and whether it is soft.
-fn push_named(told: &mut String, entry: Option<&Entry>) -> Result<(), AllocError> {
+fn push_named(told: &mut String, entry: Option<&Entry>) -> Made<()> {
     let Some(entry) = entry else {
         return told.push_str("none");
     };
@@ -35,7 +35,7 @@ fn push_named(told: &mut String, entry: Option<&Entry>) -> Result<(), AllocError
 }
 
 /// Adds the answer to a question that names nothing.
-fn push_plain(told: &mut String, registry: &Registry, asked: &str) -> Result<(), AllocError> {
+fn push_plain(told: &mut String, registry: &Registry, asked: &str) -> Made<()> {
     match asked {
         "versions" => push_versions(told, &registry.entries()?),
         "greatest-id" => push_small(told, registry.greatest_id()),
@@ -50,11 +50,7 @@ fn push_plain(told: &mut String, registry: &Registry, asked: &str) -> Result<(),
 }
 
 /// Adds the answer to a question.
-pub(crate) fn push_answer(
-    told: &mut String,
-    registry: &Registry,
-    asked: &str,
-) -> Result<(), AllocError> {
+pub(crate) fn push_answer(told: &mut String, registry: &Registry, asked: &str) -> Made<()> {
     let Some((word, name)) = asked.split_once(' ') else {
         return push_plain(told, registry, asked);
     };

@@ -1,13 +1,13 @@
 // What lines and logs say, and how records are written.
-use crate::rows::{Trouble, bytes_in, number_of};
-use reg_fold::base_text::Text;
-use reg_fold::reg_records::{
+use crate::rows::bytes_in;
+use base_text::Text;
+use reg_records::{
     Device, Key, OFFSET_LIMIT, Read, Record, Value, ValueText, has_line, is_floor_line, read_line,
     read_log, write_floor, write_line,
 };
-use reg_fold::reg_values::decode_value;
-use std::alloc::{AllocError, Global};
-use test_tools::cut;
+use reg_values::decode_value;
+use std::alloc::Global;
+use test_tools::{CaseError, Made, Said, cut, number_of};
 
 /// Whether that is the line that is written for a record.
 fn is_written(alloc: Global, line: &[u8], record: &Record) -> bool {
@@ -15,7 +15,7 @@ fn is_written(alloc: Global, line: &[u8], record: &Record) -> bool {
 }
 
 /// Adds what the value of a record says.
-fn push_value(alloc: Global, told: &mut String, record: &Record) -> Result<(), AllocError> {
+fn push_value(alloc: Global, told: &mut String, record: &Record) -> Made<()> {
     match decode_value(alloc, record)? {
         Some(Value::Noop) => told.push_str("no operation"),
         Some(value) => match value.written(alloc)? {
@@ -34,12 +34,7 @@ fn is_in_log(alloc: Global, line: &[u8], record: &Record) -> bool {
     }
 }
 
-fn push_record(
-    alloc: Global,
-    told: &mut String,
-    line: &[u8],
-    record: &Record,
-) -> Result<(), AllocError> {
+fn push_record(alloc: Global, told: &mut String, line: &[u8], record: &Record) -> Made<()> {
     if is_written(alloc, line, record) {
         told.push('=')?;
     } else {
@@ -54,7 +49,7 @@ fn push_record(
 }
 
 /// Adds what a line reads as.
-pub(crate) fn push_read(alloc: Global, told: &mut String, line: &[u8]) -> Result<(), AllocError> {
+pub(crate) fn push_read(alloc: Global, told: &mut String, line: &[u8]) -> Made<()> {
     match read_line(alloc, line) {
         Ok(Read::Record(record)) => push_record(alloc, told, line, &record),
         Ok(Read::Foreign(offset)) => write!(told, "foreign {offset}"),
@@ -63,24 +58,24 @@ pub(crate) fn push_read(alloc: Global, told: &mut String, line: &[u8]) -> Result
 }
 
 /// The key of that version of the subject `s`, or that of no operation.
-fn key_of(alloc: Global, version: &str) -> Result<Key, Trouble> {
+fn key_of(alloc: Global, version: &str) -> Said<Key> {
     if version == "-" {
         return Ok(Key::Noop);
     }
     let Ok(version) = u32::try_from(number_of(version)?) else {
-        return Err(Trouble::NotUnderstood);
+        return Err(CaseError::NotUnderstood);
     };
     let subject = Text::copy_of(alloc, "s")?;
     Ok(Key::Schema { subject, version })
 }
 
-fn value_of(alloc: Global, written: &str) -> Result<ValueText, AllocError> {
+fn value_of(alloc: Global, written: &str) -> Made<ValueText> {
     let bytes = bytes_in(alloc, written)?;
     let text = String::from_utf8_lossy(alloc, bytes.as_slice())?;
     Ok(ValueText::from(Text::of_string(text)?))
 }
 
-fn record_in(alloc: Global, asked: &str) -> Result<Record, Trouble> {
+fn record_in(alloc: Global, asked: &str) -> Said<Record> {
     let (offset, rest) = cut(asked);
     let (version, value) = cut(rest);
     let offset = number_of(offset)?;
@@ -89,7 +84,7 @@ fn record_in(alloc: Global, asked: &str) -> Result<Record, Trouble> {
     Ok(Record { offset, key, value })
 }
 
-fn push_line(alloc: Global, told: &mut String, record: &Record) -> Result<(), AllocError> {
+fn push_line(alloc: Global, told: &mut String, record: &Record) -> Made<()> {
     if !has_line(record) {
         return told.push_str("no line");
     }
@@ -108,7 +103,7 @@ fn push_line(alloc: Global, told: &mut String, record: &Record) -> Result<(), Al
 }
 
 /// Adds whether a record has a line.
-pub(crate) fn push_written(alloc: Global, told: &mut String, asked: &str) -> Result<(), Trouble> {
+pub(crate) fn push_written(alloc: Global, told: &mut String, asked: &str) -> Said<()> {
     let record = record_in(alloc, asked)?;
     push_line(alloc, told, &record)?;
     Ok(())
@@ -120,7 +115,7 @@ fn text_of(word: &str) -> &str {
 }
 
 /// Adds the schema that a value shares that brings one along.
-pub(crate) fn push_shared(alloc: Global, told: &mut String, asked: &str) -> Result<(), AllocError> {
+pub(crate) fn push_shared(alloc: Global, told: &mut String, asked: &str) -> Made<()> {
     let (brought, read) = cut(asked);
     let plain = value_of(alloc, "value")?;
     let value = plain.bringing(&Text::copy_of(alloc, text_of(brought))?)?;
@@ -136,7 +131,7 @@ pub(crate) fn push_shared(alloc: Global, told: &mut String, asked: &str) -> Resu
 }
 
 /// Adds what a log says of itself, or its fault.
-pub(crate) fn push_log(alloc: Global, told: &mut String, log: &[u8]) -> Result<(), AllocError> {
+pub(crate) fn push_log(alloc: Global, told: &mut String, log: &[u8]) -> Made<()> {
     match read_log(alloc, &mut Device::new(log)) {
         Ok(log) => {
             let records = log.records.len();
@@ -148,7 +143,7 @@ pub(crate) fn push_log(alloc: Global, told: &mut String, log: &[u8]) -> Result<(
 }
 
 /// Adds the fault of a log, and what its reader has left.
-pub(crate) fn push_rest(alloc: Global, told: &mut String, log: &[u8]) -> Result<(), AllocError> {
+pub(crate) fn push_rest(alloc: Global, told: &mut String, log: &[u8]) -> Made<()> {
     let mut reader = Device::new(log);
     match read_log(alloc, &mut reader) {
         Ok(_log) => told.push_str("no fault, ")?,
@@ -163,16 +158,16 @@ pub(crate) fn push_rest(alloc: Global, told: &mut String, log: &[u8]) -> Result<
 }
 
 /// Adds the line of a floor.
-pub(crate) fn push_floor(alloc: Global, told: &mut String, asked: &str) -> Result<(), Trouble> {
+pub(crate) fn push_floor(alloc: Global, told: &mut String, asked: &str) -> Said<()> {
     let floor = number_of(asked)?;
     if floor > OFFSET_LIMIT {
-        return Err(Trouble::NotUnderstood);
+        return Err(CaseError::NotUnderstood);
     }
     let line = write_floor(alloc, floor)?;
     Ok(told.push_str(String::from_utf8_lossy(alloc, &line)?.as_str())?)
 }
 
 /// Adds whether a line begins as one of a floor.
-pub(crate) fn push_begins(told: &mut String, line: &[u8]) -> Result<(), AllocError> {
+pub(crate) fn push_begins(told: &mut String, line: &[u8]) -> Made<()> {
     told.push_str(if is_floor_line(line) { "yes" } else { "no" })
 }

@@ -38,18 +38,16 @@ mod sets;
 
 use crate::registries::try_registries;
 use crate::rows::try_rows;
-use std::alloc::{AllocError, Global};
 use std::io;
-use test_tools::{Tally, print_cases};
-
-/// Tries the cases of a file.
-fn tally_of(alloc: Global, kind: &str, text: &str) -> Result<Tally, AllocError> {
-    match kind {
-        "rows" => try_rows(alloc, text),
-        _ => try_registries(alloc, text),
-    }
-}
+use test_tools::print_cases;
 
 fn main(rt: HostRuntime) -> io::Result<()> {
-    print_cases(&rt, &["rows", "registries"], tally_of)
+    print_cases(
+        &rt,
+        &["rows", "registries"],
+        |tally, kind, text| match kind {
+            "rows" => try_rows(tally, text),
+            _ => try_registries(tally, text),
+        },
+    )
 }

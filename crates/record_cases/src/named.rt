@@ -1,7 +1,8 @@
 // Records with names, by which the rows of sets speak of them.
-use crate::rows::{Row, Trouble, bytes_in};
-use reg_fold::reg_records::{Read, Record, read_line};
-use std::alloc::{AllocError, Global};
+use crate::rows::{Row, bytes_in};
+use reg_records::{Read, Record, read_line};
+use std::alloc::Global;
+use test_tools::{CaseError, Made, Said};
 
 /// A record, and its name.
 #[derive(Drop)]
@@ -11,7 +12,7 @@ pub(crate) struct Named<'t> {
 }
 
 /// The record of a line, which is written without its LF.
-fn record_of(alloc: Global, line: &str) -> Result<Option<Record>, AllocError> {
+fn record_of(alloc: Global, line: &str) -> Made<Option<Record>> {
     let mut bytes = bytes_in(alloc, line)?;
     bytes.push(b'\n')?;
     match read_line(alloc, &bytes) {
@@ -21,7 +22,7 @@ fn record_of(alloc: Global, line: &str) -> Result<Option<Record>, AllocError> {
 }
 
 /// What a row `let NAME = LINE` names.
-pub(crate) fn named_of<'t>(alloc: Global, row: &'t str) -> Result<Option<Named<'t>>, AllocError> {
+pub(crate) fn named_of<'t>(alloc: Global, row: &'t str) -> Made<Option<Named<'t>>> {
     let Some((name, line)) = row
         .strip_prefix("let ")
         .and_then(|told| told.split_once(" = "))
@@ -32,21 +33,21 @@ pub(crate) fn named_of<'t>(alloc: Global, row: &'t str) -> Result<Option<Named<'
     Ok(record.map(|record| Named { name, record }))
 }
 
-fn find<'n>(named: &'n [Named], name: &str) -> Result<&'n Record, Trouble> {
+fn find<'n>(named: &'n [Named], name: &str) -> Said<&'n Record> {
     for one in named {
         if one.name == name {
             return Ok(&one.record);
         }
     }
-    Err(Trouble::NotUnderstood)
+    Err(CaseError::NotUnderstood)
 }
 
-fn push_copy(records: &mut Vec<Record>, record: &Record) -> Result<(), AllocError> {
+fn push_copy(records: &mut Vec<Record>, record: &Record) -> Made<()> {
     Ok(records.push(record.clone()?)?)
 }
 
 /// The records of some names; of `none` there are none.
-pub(crate) fn records_of(row: Row, names: &str) -> Result<Vec<Record>, Trouble> {
+pub(crate) fn records_of(row: Row, names: &str) -> Said<Vec<Record>> {
     let mut records = Vec::new(row.alloc);
     for name in names.split_whitespace() {
         if name != "none" {
@@ -66,11 +67,7 @@ fn name_of<'n>(named: &'n [Named], record: &Record) -> &'n str {
 }
 
 /// Adds the names of some records.
-pub(crate) fn push_names(
-    told: &mut String,
-    named: &[Named],
-    records: &[Record],
-) -> Result<(), AllocError> {
+pub(crate) fn push_names(told: &mut String, named: &[Named], records: &[Record]) -> Made<()> {
     if records.is_empty() {
         return told.push_str("none");
     }

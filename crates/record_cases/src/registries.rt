@@ -2,10 +2,10 @@
 use crate::answers::push_answer;
 use crate::rows::bytes_in;
 use reg_fold::Registry;
-use reg_fold::reg_records::{Device, LogError, Record, read_log};
-use reg_fold::reg_set::RecordSet;
-use std::alloc::{AllocError, Global};
-use test_tools::{Tally, paragraphs_of, rows_of};
+use reg_records::{Device, LogError, Record, read_log};
+use reg_set::RecordSet;
+use std::alloc::Global;
+use test_tools::{Made, Tally, paragraphs_of, rows_of};
 
 /// The lines of a log, the questions with their answers, and these as they are wanted.
 #[derive(Clone, Copy)]
@@ -16,7 +16,7 @@ struct Case<'a> {
 }
 
 /// Whether the registry's copy of each record is that record.
-fn copies_hold(registry: &Registry, records: &[Record]) -> Result<bool, AllocError> {
+fn copies_hold(registry: &Registry, records: &[Record]) -> Made<bool> {
     for record in records {
         if registry.copy_of(record)? != *record {
             return Ok(false);
@@ -31,7 +31,7 @@ fn told(
     registry: &Registry,
     records: &[Record],
     questions: &[&str],
-) -> Result<String, AllocError> {
+) -> Made<String> {
     let mut told = String::new(alloc);
     for row in questions {
         let (asked, _) = row.split_once(" => ").unwrap_or((*row, ""));
@@ -51,7 +51,7 @@ fn fill(
     records: &[Record],
     is_grown: bool,
     other: Option<&Registry>,
-) -> Result<(), AllocError> {
+) -> Made<()> {
     if !is_grown {
         return registry.apply_all_beside(records, other);
     }
@@ -67,20 +67,20 @@ fn told_by(
     questions: &[&str],
     is_grown: bool,
     other: Option<&Registry>,
-) -> Result<String, AllocError> {
+) -> Made<String> {
     let mut registry = Registry::empty(alloc);
     fill(&mut registry, records, is_grown, other)?;
     told(alloc, &registry, records, questions)
 }
 
-fn read(alloc: Global, records: &[Record]) -> Result<Registry, AllocError> {
+fn read(alloc: Global, records: &[Record]) -> Made<Registry> {
     let set = RecordSet::of(alloc, records)?;
     Registry::of_set(alloc, &set)
 }
 
 /// What is told by a registry that is read from a set, and by those that take the records in another way, the first that tells what isn't
 /// wanted.
-fn told_by_all(alloc: Global, records: &[Record], case: Case) -> Result<String, AllocError> {
+fn told_by_all(alloc: Global, records: &[Record], case: Case) -> Made<String> {
     let whole = read(alloc, records)?;
     let half = read(alloc, records.get(..records.len() / 2).unwrap_or(&[]))?;
     let mut came = told(alloc, &whole, records, case.questions)?;
@@ -96,7 +96,7 @@ fn told_by_all(alloc: Global, records: &[Record], case: Case) -> Result<String, 
 }
 
 /// The lines in one of their orders: six lines have the orders 0 to 719.
-fn log_in_order(alloc: Global, lines: &[&str], order: u64) -> Result<Vec<u8>, AllocError> {
+fn log_in_order(alloc: Global, lines: &[&str], order: u64) -> Made<Vec<u8>> {
     let mut left = lines.to_vec(alloc)?;
     let mut order = order;
     let mut log = String::new(alloc);
@@ -131,7 +131,7 @@ fn orders_of(log: &[&str]) -> u64 {
 }
 
 /// What comes in the orders of the lines, the first that isn't wanted.
-fn came_of(alloc: Global, case: Case) -> Result<String, AllocError> {
+fn came_of(alloc: Global, case: Case) -> Made<String> {
     for order in 0..orders_of(case.log) {
         match told_in_order(alloc, case, order) {
             Ok(came) if came.as_str() == case.wanted => {}
@@ -142,32 +142,26 @@ fn came_of(alloc: Global, case: Case) -> Result<String, AllocError> {
     String::from_str(alloc, case.wanted)
 }
 
-fn try_paragraph(alloc: Global, tally: &mut Tally, paragraph: &str) -> Result<(), AllocError> {
-    let mut log = Vec::new(alloc);
-    let mut questions = Vec::new(alloc);
-    let mut wanted = String::new(alloc);
-    for row in &rows_of(alloc, paragraph)? {
-        if matches!(row.as_bytes().first(), Some(b'0'..=b'9')) {
-            log.push(*row)?;
-        } else {
-            questions.push(*row)?;
-            writeln!(wanted, "{row}")?;
-        }
-    }
-    let case = Case {
-        log: &log,
-        questions: &questions,
-        wanted: wanted.as_str(),
-    };
-    let came = came_of(alloc, case)?;
-    tally.count(alloc, paragraph, wanted.as_bytes(), came.as_bytes())
-}
-
 /// Tries each paragraph.
-pub(crate) fn try_registries(alloc: Global, text: &str) -> Result<Tally, AllocError> {
-    let mut tally = Tally::new(alloc);
+pub(crate) fn try_registries(tally: &mut Tally, text: &str) -> Made<()> {
+    let alloc = tally.alloc;
     for paragraph in &paragraphs_of(alloc, text)? {
-        try_paragraph(alloc, &mut tally, *paragraph)?;
+        let (mut log, mut questions) = (Vec::new(alloc), Vec::new(alloc));
+        let mut wanted = String::new(alloc);
+        for row in &rows_of(alloc, paragraph)? {
+            if matches!(row.as_bytes().first(), Some(b'0'..=b'9')) {
+                log.push(*row)?;
+            } else {
+                questions.push(*row)?;
+                writeln!(wanted, "{row}")?;
+            }
+        }
+        let case = Case {
+            log: &log,
+            questions: &questions,
+            wanted: wanted.as_str(),
+        };
+        tally.tell(paragraph, wanted.as_str(), Ok(came_of(alloc, case)?))?;
     }
-    Ok(tally)
+    Ok(())
 }

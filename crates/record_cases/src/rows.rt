@@ -5,21 +5,8 @@ use crate::lines::{
 };
 use crate::named::{Named, named_of};
 use crate::sets::push_set;
-use std::alloc::{AllocError, Global};
-use test_tools::{Tally, bytes_of, cut, rows_of};
-
-/// Why a row has no answer.
-#[derive(Clone, Copy)]
-pub(crate) enum Trouble {
-    NotUnderstood,
-    OutOfMemory,
-}
-
-impl From<AllocError> for Trouble {
-    fn from(_refused: AllocError) -> Trouble {
-        Trouble::OutOfMemory
-    }
-}
+use std::alloc::Global;
+use test_tools::{CaseError, Made, Said, Tally, bytes_of, cut, halves, rows_of};
 
 /// What a row asks, behind its first word, and the records that it may name.
 #[derive(Clone, Copy)]
@@ -30,25 +17,18 @@ pub(crate) struct Row<'r> {
 }
 
 /// The bytes that a text stands for, in which `|` is a TAB.
-pub(crate) fn bytes_in(alloc: Global, text: &str) -> Result<Vec<u8>, AllocError> {
+pub(crate) fn bytes_in(alloc: Global, text: &str) -> Made<Vec<u8>> {
     let text = text.replace(alloc, "|", "^t")?;
     bytes_of(alloc, text.as_str())
 }
 
-pub(crate) fn number_of(word: &str) -> Result<u64, Trouble> {
-    match word.parse::<u64>() {
-        Ok(number) => Ok(number),
-        Err(_) => Err(Trouble::NotUnderstood),
-    }
-}
-
 /// The two parts of what is asked, between which that word stands.
-pub(crate) fn parts_of<'a>(asked: &'a str, word: &str) -> Result<(&'a str, &'a str), Trouble> {
-    asked.split_once(word).ok_or(Trouble::NotUnderstood)
+pub(crate) fn parts_of<'a>(asked: &'a str, word: &str) -> Said<(&'a str, &'a str)> {
+    asked.split_once(word).ok_or(CaseError::NotUnderstood)
 }
 
 /// Adds what comes of a row of sets.
-fn push_of_sets(told: &mut String, word: &str, row: Row) -> Result<(), Trouble> {
+fn push_of_sets(told: &mut String, word: &str, row: Row) -> Said<()> {
     match word {
         "set" => push_set(told, row),
         "compact" => push_compacted(told, row),
@@ -56,12 +36,12 @@ fn push_of_sets(told: &mut String, word: &str, row: Row) -> Result<(), Trouble> 
         "rebase" => push_rebased(told, row),
         "part" => push_is_part(told, row),
         "new" => push_new(told, row),
-        _ => Err(Trouble::NotUnderstood),
+        _ => Err(CaseError::NotUnderstood),
     }
 }
 
 /// Adds what comes of a row.
-fn push_answer(told: &mut String, word: &str, row: Row) -> Result<(), Trouble> {
+fn push_answer(told: &mut String, word: &str, row: Row) -> Said<()> {
     let Row { alloc, asked, .. } = row;
     let bytes = bytes_in(alloc, asked)?;
     match word {
@@ -77,43 +57,38 @@ fn push_answer(told: &mut String, word: &str, row: Row) -> Result<(), Trouble> {
     Ok(())
 }
 
-fn try_row(tally: &mut Tally, row: &str, alloc: Global, named: &[Named]) -> Result<(), AllocError> {
-    let Some((asked, wanted)) = row.split_once(" => ") else {
-        return tally.refuse(row);
-    };
+/// What comes of a row.
+fn came_of(alloc: Global, named: &[Named], row: &str) -> Said<String> {
+    let (words, _wanted) = row.split_once(" => ").ok_or(CaseError::NotUnderstood)?;
+    let (word, asked) = cut(words);
     let mut told = String::new(alloc);
-    let (word, asked) = cut(asked);
-    let asked = Row {
+    let row = Row {
         alloc,
         named,
         asked,
     };
-    match push_answer(&mut told, word, asked) {
-        Ok(()) => tally.count(alloc, row, &bytes_in(alloc, wanted)?, told.as_bytes()),
-        Err(Trouble::NotUnderstood) => tally.refuse(row),
-        Err(Trouble::OutOfMemory) => tally.count(alloc, row, wanted.as_bytes(), b"out of memory"),
-    }
+    push_answer(&mut told, word, row)?;
+    Ok(told)
 }
 
-fn try_all<'t>(
-    alloc: Global,
-    tally: &mut Tally,
-    named: &mut Vec<Named<'t>>,
-    text: &'t str,
-) -> Result<(), AllocError> {
+/// Tries the rows, and adds the records that they name.
+fn try_all<'t>(tally: &mut Tally, named: &mut Vec<Named<'t>>, text: &'t str) -> Made<()> {
+    let alloc = tally.alloc;
     for row in &rows_of(alloc, text)? {
-        match named_of(alloc, *row)? {
-            Some(one) => named.push(one)?,
-            None => try_row(tally, *row, alloc, named)?,
+        if let Some(one) = named_of(alloc, *row)? {
+            named.push(one)?;
+        } else {
+            let (_words, wanted) = halves(row);
+            let wanted = bytes_in(alloc, wanted)?;
+            let wanted = String::from_utf8_lossy(alloc, &wanted)?;
+            tally.tell(row, wanted.as_str(), came_of(alloc, named, row))?;
         }
     }
     Ok(())
 }
 
 /// Tries each row of a file; one that names a record is no case.
-pub(crate) fn try_rows(alloc: Global, text: &str) -> Result<Tally, AllocError> {
-    let mut tally = Tally::new(alloc);
-    let mut named = Vec::new(alloc);
-    try_all(alloc, &mut tally, &mut named, text)?;
-    Ok(tally)
+pub(crate) fn try_rows(tally: &mut Tally, text: &str) -> Made<()> {
+    let mut named = Vec::new(tally.alloc);
+    try_all(tally, &mut named, text)
 }

@@ -1,9 +1,9 @@
 // Sets of records: what they take, their order, their last records.
 use crate::named::{push_names, records_of};
-use crate::rows::{Row, Trouble};
-use reg_fold::reg_records::{Key, Record};
-use reg_fold::reg_set::{RecordSet, TakeOutcome, keeps_lasts};
-use std::alloc::AllocError;
+use crate::rows::Row;
+use reg_records::{Key, Record};
+use reg_set::{RecordSet, TakeOutcome, keeps_lasts};
+use test_tools::{Made, Said};
 
 pub(crate) fn outcome_name(outcome: TakeOutcome) -> &'static str {
     match outcome {
@@ -14,7 +14,7 @@ pub(crate) fn outcome_name(outcome: TakeOutcome) -> &'static str {
 }
 
 /// Takes records one after the other.
-fn take_all(told: &mut String, set: &mut RecordSet, records: &[Record]) -> Result<(), AllocError> {
+fn take_all(told: &mut String, set: &mut RecordSet, records: &[Record]) -> Made<()> {
     let mut space = "";
     for record in records {
         let outcome = outcome_name(set.take(record)?);
@@ -44,12 +44,7 @@ fn keep_lasts(front: &RecordSet, set: &RecordSet, compacted: &RecordSet, is_whol
 }
 
 /// Adds the records of a set, and its last ones.
-fn push_records(
-    told: &mut String,
-    row: Row,
-    set: &RecordSet,
-    compacted: &RecordSet,
-) -> Result<(), AllocError> {
+fn push_records(told: &mut String, row: Row, set: &RecordSet, compacted: &RecordSet) -> Made<()> {
     let (records, lasts) = (set.records()?, compacted.records()?);
     for part in [&records, &lasts] {
         told.push_str("; ")?;
@@ -63,14 +58,14 @@ fn push_records(
     Ok(())
 }
 
-fn compact(set: &RecordSet) -> Result<RecordSet, AllocError> {
+fn compact(set: &RecordSet) -> Made<RecordSet> {
     let mut compacted = set.clone()?;
     compacted.compact();
     Ok(compacted)
 }
 
 /// Adds what a set of records answers.
-pub(crate) fn push_set(told: &mut String, row: Row) -> Result<(), Trouble> {
+pub(crate) fn push_set(told: &mut String, row: Row) -> Said<()> {
     let (taken, merged) = row.asked.split_once(" and ").unwrap_or((row.asked, ""));
     let taken = records_of(row, taken)?;
     let merged = records_of(row, merged)?;

@@ -1,12 +1,59 @@
 // Judgements in words, how they are made, and what they tell.
-use crate::rows::Fault;
-use crate::words::{cut, level_of, number_of};
 use reg_judge::Judge;
-use reg_leader::reg_level_names::Level;
-use reg_leader::reg_levels::{Judged, LevelVerdict, versions_rise};
-use std::alloc::{AllocError, Global};
+use reg_level_names::Level;
+use reg_levels::{Judged, JudgedError, LevelVerdict, versions_rise};
+use std::alloc::{AllocError, AllocFailed, Global};
+use test_tools::{CaseError, Made, Said, cut, small_of};
+use test_words::level_of;
 
-/// What is judged: a level, a new text, and old ones with their versions.
+/// Why nothing comes of a judgement.
+#[derive(Clone, Copy)]
+pub(crate) enum Fault {
+    Case(CaseError),
+    /// A text that is to be judged is no schema's.
+    Unjudged(JudgedError),
+}
+
+impl From<CaseError> for Fault {
+    fn from(error: CaseError) -> Fault {
+        Fault::Case(error)
+    }
+}
+
+impl From<AllocError> for Fault {
+    fn from(_refused: AllocError) -> Fault {
+        Fault::Case(CaseError::OutOfMemory)
+    }
+}
+
+impl<T: Drop> From<AllocFailed<T>> for Fault {
+    fn from(_refused: AllocFailed<T>) -> Fault {
+        Fault::Case(CaseError::OutOfMemory)
+    }
+}
+
+impl From<JudgedError> for Fault {
+    fn from(error: JudgedError) -> Fault {
+        Fault::Unjudged(error)
+    }
+}
+
+/// What came, or which text is no schema.
+pub(crate) fn told(alloc: Global, came: Result<String, Fault>) -> Said<String> {
+    match came {
+        Ok(came) => Ok(came),
+        Err(Fault::Unjudged(JudgedError::NewText)) => {
+            Ok(String::from_str(alloc, "the new text is no schema")?)
+        }
+        Err(Fault::Unjudged(JudgedError::OldText(version))) => {
+            Ok(format!(in alloc; "version {version} is no schema")?)
+        }
+        Err(Fault::Unjudged(JudgedError::OutOfMemory)) => Err(CaseError::OutOfMemory),
+        Err(Fault::Case(error)) => Err(error),
+    }
+}
+
+/// What is judged: a level, a new text, and old ones with their versions, which rise.
 #[derive(Drop)]
 pub(crate) struct Asked<'a> {
     pub(crate) level: Level,
@@ -15,14 +62,14 @@ pub(crate) struct Asked<'a> {
 }
 
 /// What is judged in words, as `LEVEL; NEW; VERSION OLD; VERSION OLD`.
-pub(crate) fn asked_of(alloc: Global, words: &str) -> Result<Asked<'_>, Fault> {
-    let (name, texts) = words.split_once("; ").ok_or(Fault::Unclear("a text"))?;
+pub(crate) fn asked_of(alloc: Global, words: &str) -> Said<Asked<'_>> {
+    let (name, texts) = words.split_once("; ").ok_or(CaseError::NotUnderstood)?;
     let (new_text, rest) = texts.split_once("; ").unwrap_or((texts, ""));
     let mut olds = Vec::new(alloc);
     if !rest.is_empty() {
         for part in rest.split("; ") {
-            let (version, text) = cut(part)?;
-            olds.push((number_of(version)?, text))?;
+            let (version, text) = cut(part);
+            olds.push((small_of(version)?, text))?;
         }
     }
     Ok(Asked {
@@ -40,7 +87,7 @@ pub(crate) fn made(
 ) -> Result<Judged, Fault> {
     let olds = asked.olds.as_slice();
     if !versions_rise(olds) {
-        return Err(Fault::Unclear("a rising version"));
+        return Err(Fault::Case(CaseError::NotUnderstood));
     }
     match judge {
         Some(judge) => Ok(judge.make(asked.level, asked.new_text, olds)?),
@@ -48,15 +95,14 @@ pub(crate) fn made(
     }
 }
 
-fn names_a_pair(verdict: &LevelVerdict) -> bool {
-    verdict.version.is_some() || verdict.direction.is_some() || verdict.trail.is_some()
-}
-
 /// What a verdict tells: `ok`, or the message.
-pub(crate) fn verdict_text(alloc: Global, verdict: &LevelVerdict) -> Result<String, AllocError> {
+pub(crate) fn verdict_text(alloc: Global, verdict: &LevelVerdict) -> Made<String> {
+    let names_a_pair = verdict.version.is_some()
+        || verdict.direction.is_some()
+        || verdict.trail.is_some();
     match &verdict.message(alloc)? {
         Some(message) if !verdict.ok => String::from_str(alloc, message.as_str()),
-        None if verdict.ok && !names_a_pair(verdict) => String::from_str(alloc, "ok"),
+        None if verdict.ok && !names_a_pair => String::from_str(alloc, "ok"),
         _ => String::from_str(alloc, "a verdict at odds with itself"),
     }
 }

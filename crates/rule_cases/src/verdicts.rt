@@ -1,12 +1,13 @@
-// What levels ask for, as checks, judgements and judges tell it, and what judgements fit.
-use crate::judgements::{Asked, asked_of, made, verdict_text};
-use crate::rows::{Fault, Row};
+// What levels ask for, as checks, judgements and judges tell it, what judgements fit, and what judges keep.
+use crate::judgements::{Asked, Fault, asked_of, made, told, verdict_text};
+use avro_schema::Schema;
 use reg_judge::Judge;
-use reg_leader::avro_schema::Schema;
-use reg_leader::reg_levels::{JudgedError, LevelVerdict, check, versions_rise};
+use reg_levels::{JudgedError, LevelVerdict, check, versions_rise};
 use std::alloc::{AllocError, Global};
 use std::hash::RandomState;
-use test_tools::{Tally, rows_of};
+use test_tools::{
+    CaseError, Made, Said, Tally, cut, halves, number_of, numbered_text, paragraphs_of, rows_of,
+};
 
 fn schema_of(alloc: Global, text: &str, error: JudgedError) -> Result<Schema, Fault> {
     Schema::read_if_any(alloc, text)?.ok_or(Fault::Unjudged(error))
@@ -24,7 +25,7 @@ fn checked(
         olds.push((old.0, &old.1))?;
     }
     if !versions_rise(&olds) {
-        return Err(Fault::Unclear("a rising version"));
+        return Err(Fault::Case(CaseError::NotUnderstood));
     }
     Ok(check(alloc, asked.level, new, &olds)?)
 }
@@ -46,7 +47,7 @@ fn by_check(alloc: Global, judge: &mut Judge, words: &str) -> Result<String, Fau
     let asked = asked_of(alloc, words)?;
     let olds = asked.olds.as_slice();
     if !versions_rise(olds) {
-        return Err(Fault::Unclear("a rising version"));
+        return Err(Fault::Case(CaseError::NotUnderstood));
     }
     let verdict = judge.check(asked.level, asked.new_text, olds)?;
     Ok(verdict_text(alloc, &verdict)?)
@@ -69,65 +70,99 @@ fn is_fit(words: &str) -> bool {
     words.contains(" fits ")
 }
 
-/// Counts a row, and compares what is told without a judge.
-fn count(alloc: Global, tally: &mut Tally, row: Row<'_>) -> Result<(), AllocError> {
-    row.count(alloc, tally, by_judgement(alloc, None, row.words))?;
-    if is_fit(row.words) {
-        return Ok(());
+/// Compares what a judge tells of a row, which is to keep all verdicts.
+fn compare(tally: &mut Tally, judge: &mut Judge, row: &str, words: &str, wanted: &str) -> Made<()> {
+    let alloc = tally.alloc;
+    if !is_fit(words) {
+        tally.tell_more(row, wanted, told(alloc, by_check(alloc, judge, words)))?;
     }
-    row.compare(alloc, tally, by_schemas(alloc, row.words))
+    let came = by_judgement(alloc, Some(&mut *judge), words);
+    tally.tell_more(row, wanted, told(alloc, came))?;
+    match judge.kept_all() {
+        true => Ok(()),
+        false => tally.compare(row, b"", b"a verdict that isn't kept"),
+    }
 }
 
-/// Compares what a judge tells, which is to keep all verdicts.
-fn compare(
-    alloc: Global,
-    tally: &mut Tally,
-    judge: &mut Judge,
-    row: Row<'_>,
-) -> Result<(), AllocError> {
-    if !is_fit(row.words) {
-        row.compare(alloc, tally, by_check(alloc, judge, row.words))?;
+/// Counts a row without a judge, or compares what the judge tells of it.
+fn try_row(tally: &mut Tally, judge: Option<&mut Judge>, row: &str) -> Made<()> {
+    let alloc = tally.alloc;
+    let text = numbered_text(alloc, row)?;
+    let (words, wanted) = halves(text.as_str());
+    if let Some(judge) = judge {
+        return compare(tally, judge, row, words, wanted);
     }
-    row.compare(
-        alloc,
-        tally,
-        by_judgement(alloc, Some(&mut *judge), row.words),
-    )?;
-    if judge.kept_all() {
+    tally.tell(row, wanted, told(alloc, by_judgement(alloc, None, words)))?;
+    if is_fit(words) {
         return Ok(());
     }
-    row.compare(alloc, tally, Err(Fault::Unclear("a verdict that is kept")))
+    tally.tell_more(row, wanted, told(alloc, by_schemas(alloc, words)))
 }
 
-/// Compares twice what a judge tells of all rows.
-fn compare_all(
-    alloc: Global,
-    tally: &mut Tally,
-    judge: &mut Judge,
-    rows: &[&str],
-) -> Result<(), AllocError> {
-    for _ in 0..2 {
-        for row in rows {
-            compare(alloc, tally, judge, Row::of(row))?;
+/// Tries each row, and then twice all of them with judges that keep less and more.
+pub(crate) fn try_verdicts(tally: &mut Tally, keys: RandomState, text: &str) -> Made<()> {
+    let rows = rows_of(tally.alloc, text)?;
+    for row in &rows {
+        try_row(tally, None, row)?;
+    }
+    for capacity in [1, 2, 100] {
+        let made = Judge::new(tally.alloc, keys, capacity, capacity);
+        let mut judge = made.ok().ok_or(AllocError)?;
+        for _ in 0..2 {
+            for row in &rows {
+                try_row(tally, Some(&mut judge), row)?;
+            }
         }
     }
     Ok(())
 }
 
-/// Tries each row, and then all of them with judges that keep less and more.
-pub(crate) fn try_verdicts(
-    alloc: Global,
-    keys: RandomState,
-    text: &str,
-) -> Result<Tally, AllocError> {
-    let mut tally = Tally::new(alloc);
-    let rows = rows_of(alloc, text)?;
-    for row in &rows {
-        count(alloc, &mut tally, Row::of(row))?;
+/// What comes of what a judge is asked.
+fn asked_by(alloc: Global, judge: &mut Judge, words: &str) -> Said<String> {
+    match words.strip_prefix("has ") {
+        Some(texts) => {
+            let (reader, writer) = texts.split_once("; ").ok_or(CaseError::NotUnderstood)?;
+            let has = judge.has(reader, writer);
+            Ok(String::from_str(alloc, if has { "yes" } else { "no" })?)
+        }
+        None => told(alloc, by_check(alloc, judge, words)),
     }
-    for capacity in [1, 2, 100] {
-        let made = Judge::new(alloc, keys, capacity, capacity);
-        compare_all(alloc, &mut tally, &mut made.ok().ok_or(AllocError)?, &rows)?;
+}
+
+/// Tries the rows below the one of a judge, which is lent, so that it hasn't to be dropped on the way.
+fn ask_judge(tally: &mut Tally, judge: &mut Judge, first: &str, rows: &[&str]) -> Made<()> {
+    let (_words, wanted) = halves(first);
+    tally.count(first, wanted.as_bytes(), b"made")?;
+    for row in rows {
+        let (words, wanted) = halves(row);
+        tally.tell(row, wanted, asked_by(tally.alloc, judge, words))?;
     }
-    Ok(tally)
+    Ok(())
+}
+
+/// Tries a judge that is to keep what a row says, and the rows below it.
+fn try_judge(tally: &mut Tally, keys: RandomState, first: &str, rows: &[&str]) -> Made<()> {
+    let alloc = tally.alloc;
+    let (words, wanted) = halves(first);
+    let (schemas, verdicts) = cut(words.strip_prefix("judge ").unwrap_or(""));
+    let (Ok(schemas), Ok(verdicts)) = (number_of(schemas), number_of(verdicts)) else {
+        return tally.refuse(first);
+    };
+    match Judge::new(alloc, keys, schemas as usize, verdicts as usize) {
+        Ok(mut judge) => ask_judge(tally, &mut judge, first, rows),
+        Err(error) => tally.tell(first, wanted, Ok(format!(in alloc; "{error:?}")?)),
+    }
+}
+
+/// Tries the judge of each paragraph.
+pub(crate) fn try_judges(tally: &mut Tally, keys: RandomState, text: &str) -> Made<()> {
+    for paragraph in &paragraphs_of(tally.alloc, text)? {
+        tally.begin(paragraph)?;
+        let rows = rows_of(tally.alloc, paragraph)?;
+        match rows.split_first() {
+            Some((first, rest)) => try_judge(tally, keys, first, rest)?,
+            None => tally.refuse(paragraph)?,
+        }
+    }
+    Ok(())
 }

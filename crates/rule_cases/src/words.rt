@@ -1,97 +1,38 @@
-// Words: numbers, subjects and versions; names, and what modes permit.
-use crate::replies::permit_text;
-use crate::rows::{Fault, Row};
-use reg_leader::base_text::Text;
-use reg_leader::reg_fold::VersionRef;
-use reg_leader::reg_level_names::Level;
-use reg_leader::reg_modes::{Mode, may_register, may_write};
-use std::alloc::{AllocError, Global};
-use test_tools::{Tally, bytes_of, rows_of};
+// Names, and what modes permit.
+use reg_fold::Refusal;
+use reg_level_names::Level;
+use reg_modes::{Mode, may_register, may_write};
+use std::alloc::Global;
+use test_tools::{CaseError, Made, Said, Tally, cut, halves, rows_of, text_in};
+use test_words::{mode_of, refusal_text};
 
-/// The number that a word is.
-pub(crate) fn number_of(word: &str) -> Result<u32, Fault> {
-    word.parse::<u32>().ok().ok_or(Fault::Unclear("a number"))
-}
-
-/// The first word, and the words behind it.
-pub(crate) fn cut(words: &str) -> Result<(&str, &str), Fault> {
-    words.split_once(' ').ok_or(Fault::Unclear("a word"))
-}
-
-/// The first word, whether a `+` stands behind it, and the words behind it.
-pub(crate) fn parts_of(words: &str) -> (&str, bool, &str) {
-    let (kind, rest) = words.split_once(' ').unwrap_or((words, ""));
-    match kind.strip_suffix("+") {
-        Some(kind) => (kind, true, rest),
-        None => (kind, false, rest),
+/// `permitted`, or why not.
+pub(crate) fn permit_text(alloc: Global, permit: Result<(), Refusal>) -> Said<String> {
+    match &permit {
+        Ok(()) => Ok(String::from_str(alloc, "permitted")?),
+        Err(refusal) => Ok(refusal_text(alloc, refusal)?),
     }
 }
 
-/// The subject that the first word is, and the words behind it.
-pub(crate) fn subject_of(alloc: Global, words: &str) -> Result<(Text, &str), Fault> {
-    let (subject, rest) = cut(words)?;
-    Ok((Text::copy_of(alloc, subject)?, rest))
-}
-
-/// The subject that a word is; `None` for `*`, which is all subjects.
-pub(crate) fn scope_of(alloc: Global, word: &str) -> Result<Option<Text>, AllocError> {
-    match word {
-        "*" => Ok(None),
-        _ => Ok(Some(Text::copy_of(alloc, word)?)),
-    }
-}
-
-/// The version that a word is; `None` for `-`.
-pub(crate) fn version_in(word: &str) -> Result<Option<VersionRef>, Fault> {
-    match word {
-        "-" => Ok(None),
-        "latest" => Ok(Some(VersionRef::Latest)),
-        _ => Ok(Some(VersionRef::Number(number_of(word)?))),
-    }
-}
-
-/// The subject and the version that two words are.
-pub(crate) fn version_of(alloc: Global, words: &str) -> Result<(Text, VersionRef), Fault> {
-    let (subject, word) = subject_of(alloc, words)?;
-    Ok((
-        subject,
-        version_in(word)?.ok_or(Fault::Unclear("a version"))?,
-    ))
-}
-
-pub(crate) fn level_of(name: &str) -> Result<Level, Fault> {
-    Level::parse(name).ok_or(Fault::Unclear("a level"))
-}
-
-pub(crate) fn mode_of(name: &str) -> Result<Mode, Fault> {
-    Mode::parse(name).ok_or(Fault::Unclear("a mode"))
-}
-
-fn came_of(alloc: Global, words: &str) -> Result<String, Fault> {
-    let (kind, rest) = cut(words)?;
-    let text = String::from_utf8_lossy(alloc, bytes_of(alloc, rest)?.as_slice())?;
-    match kind {
-        "level" => match Level::parse(text.as_str()) {
-            Some(level) => Ok(format!(in alloc; "{level}")?),
-            None => Ok(String::from_str(alloc, "none")?),
-        },
-        "mode" => match Mode::parse(text.as_str()) {
-            Some(mode) => Ok(format!(in alloc; "{mode}")?),
-            None => Ok(String::from_str(alloc, "none")?),
-        },
-        "register" => permit_text(alloc, may_register(mode_of(rest)?, false)),
-        "import" => permit_text(alloc, may_register(mode_of(rest)?, true)),
-        "write" => permit_text(alloc, may_write(mode_of(rest)?)),
-        _ => Err(Fault::Unclear("a question")),
-    }
+fn came_of(alloc: Global, words: &str) -> Said<String> {
+    let (kind, rest) = cut(words);
+    let text = text_in(alloc, rest)?;
+    let name = match kind {
+        "level" => Level::parse(text.as_str()).map(|level| level.as_str()),
+        "mode" => Mode::parse(text.as_str()).map(|mode| mode.as_str()),
+        "register" => return permit_text(alloc, may_register(mode_of(rest)?, false)),
+        "import" => return permit_text(alloc, may_register(mode_of(rest)?, true)),
+        "write" => return permit_text(alloc, may_write(mode_of(rest)?)),
+        _ => return Err(CaseError::NotUnderstood),
+    };
+    Ok(String::from_str(alloc, name.unwrap_or("none"))?)
 }
 
 /// Tries each row.
-pub(crate) fn try_words(alloc: Global, text: &str) -> Result<Tally, AllocError> {
-    let mut tally = Tally::new(alloc);
-    for row in &rows_of(alloc, text)? {
-        let row = Row::of(row);
-        row.count(alloc, &mut tally, came_of(alloc, row.words))?;
+pub(crate) fn try_words(tally: &mut Tally, text: &str) -> Made<()> {
+    for row in &rows_of(tally.alloc, text)? {
+        let (words, wanted) = halves(row);
+        tally.tell(row, wanted, came_of(tally.alloc, words))?;
     }
-    Ok(tally)
+    Ok(())
 }

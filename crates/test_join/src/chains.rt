@@ -8,7 +8,7 @@ use reg_records::Record;
 use std::alloc::{AllocError, Global};
 use std::cell::RefCell;
 use std::rc::Rc;
-use test_tools::Draws;
+use test_tools::{Draws, Made};
 
 /// A batch that was asked for behind so many, and may come to stand there.
 #[derive(Drop)]
@@ -46,18 +46,15 @@ impl Shelf {
         }
     }
 
-    /// From now on there are no faults, and what is open never comes to stand.
-    pub(crate) fn mend(&mut self) {
+    /// From now on there are no faults, and what is open never comes to stand. Whether others came first once.
+    pub(crate) fn mend(&mut self) -> bool {
         self.has_faults = false;
         self.late = None;
+        self.was_behind
     }
 
     pub(crate) fn len(&self) -> usize {
         self.batches.len()
-    }
-
-    pub(crate) fn was_behind(&self) -> bool {
-        self.was_behind
     }
 
     /// Whether exactly this batch stands at that place.
@@ -74,7 +71,7 @@ impl Shelf {
     }
 
     /// A batch that is open comes to stand, or never does, or stays open.
-    fn settle_late(&mut self) -> Result<(), AllocError> {
+    fn settle_late(&mut self) -> Made<()> {
         if self.draws.below(4) != 0 {
             return Ok(());
         }
@@ -84,7 +81,7 @@ impl Shelf {
         }
     }
 
-    fn settle(&mut self, late: Late) -> Result<(), AllocError> {
+    fn settle(&mut self, late: Late) -> Made<()> {
         if late.behind != self.batches.len() || self.draws.below(2) != 0 {
             return Ok(());
         }
@@ -93,8 +90,9 @@ impl Shelf {
         Ok(())
     }
 
-    /// A copy of the batch at that place.
-    fn copy_at(&self, place: usize) -> Result<Option<Listed<Record>>, AllocError> {
+    /// A copy of the batch at that place, where one that is open may come to stand first.
+    fn next_at(&mut self, place: usize) -> Made<Option<Listed<Record>>> {
+        self.settle_late()?;
         match self.batches.get(place) {
             Some(batch) => Ok(Some(batch.clone()?)),
             None => Ok(None),
@@ -153,7 +151,7 @@ impl Shelf {
     }
 
     /// The batch stands at the end.
-    fn put(&mut self, batch: &[Record]) -> Result<(), AllocError> {
+    fn put(&mut self, batch: &[Record]) -> Made<()> {
         let copies = batch.to_vec(self.alloc)?;
         self.batches.push(Listed::from(copies))?;
         Ok(())
@@ -183,10 +181,11 @@ impl Handle {
     }
 
     /// Brings the next batch into its own chain, if there is one.
-    fn bring(&mut self) -> Result<(), AllocError>
+    fn bring(&mut self) -> Made<()>
         ensures { self.new.mine.told ≡ self.old.mine.told }
     {
-        let next = next_of(&self.shelf, self.brought)?;
+        let place = self.brought;
+        let next = on_shelf(&self.shelf, Err(AllocError), |shelf| shelf.next_at(place))?;
         let Some(batch) = next else {
             return Ok(());
         };
@@ -200,7 +199,7 @@ impl Handle {
         ensures { self.new.mine.told ≡ told_after self.old.mine.told batch.now result }
     {
         let answer = self.mine.append(batch);
-        if puts(&self.shelf, batch, answer) {
+        if on_shelf(&self.shelf, false, |shelf| shelf.note(batch, answer)) {
             self.brought = self.brought.saturating_add(1);
             self.told = self.told.saturating_add(1);
         }
@@ -220,18 +219,19 @@ impl Chain for Handle {
         if self.bring().is_err() {
             return ChainAnswer::Declined;
         }
-        match fault_of(&self.shelf, self.told, batch) {
+        let (told, declined) = (self.told, Some(ChainAnswer::Declined));
+        match on_shelf(&self.shelf, declined, |shelf| shelf.fault(told, batch)) {
             Some(ChainAnswer::Unknown) => ChainAnswer::Unknown,
             Some(_) => ChainAnswer::Declined,
             None => self.ask(batch),
         }
     }
 
-    fn next(&mut self) -> Result<Option<Listed<Record>>, AllocError> {
-        if is_refused(&self.shelf) {
+    fn next(&mut self) -> Made<Option<Listed<Record>>> {
+        if on_shelf(&self.shelf, true, |shelf| shelf.refuses()) {
             return Err(AllocError);
         }
-        if is_hidden(&self.shelf) {
+        if on_shelf(&self.shelf, true, |shelf| shelf.hides()) {
             return Ok(None);
         }
         self.bring()?;
@@ -243,46 +243,16 @@ impl Chain for Handle {
     }
 }
 
-/// A copy of the batch at that place.
-fn next_of(shelf: &RefCell<Shelf>, place: usize) -> Result<Option<Listed<Record>>, AllocError> {
+/// Does something with what all share. It comes to the other end where somebody has borrowed it, which can't be here.
+pub(crate) fn on_shelf<B: Drop, F: FnOnce(&mut Shelf) -> B>(
+    shelf: &RefCell<Shelf>,
+    otherwise: B,
+    act: F,
+) -> B
+    requires { F.IsAlwaysCallable act }
+{
     match shelf.try_borrow_mut() {
-        Ok(mut shelf) => settle_and_copy(&mut shelf, place),
-        Err(_) => Err(AllocError),
-    }
-}
-
-fn settle_and_copy(shelf: &mut Shelf, place: usize) -> Result<Option<Listed<Record>>, AllocError> {
-    shelf.settle_late()?;
-    shelf.copy_at(place)
-}
-
-/// Whether memory is refused.
-fn is_refused(shelf: &RefCell<Shelf>) -> bool {
-    match shelf.try_borrow_mut() {
-        Ok(mut shelf) => shelf.refuses(),
-        Err(_) => true,
-    }
-}
-
-/// Whether what stands next isn't told yet.
-fn is_hidden(shelf: &RefCell<Shelf>) -> bool {
-    match shelf.try_borrow_mut() {
-        Ok(mut shelf) => shelf.hides(),
-        Err(_) => true,
-    }
-}
-
-fn fault_of(shelf: &RefCell<Shelf>, behind: usize, batch: &[Record]) -> Option<ChainAnswer> {
-    match shelf.try_borrow_mut() {
-        Ok(mut shelf) => shelf.fault(behind, batch),
-        Err(_) => Some(ChainAnswer::Declined),
-    }
-}
-
-/// Notes an answer, and puts a batch that is kept at the end of what is shared; whether it did.
-fn puts(shelf: &RefCell<Shelf>, batch: &[Record], answer: ChainAnswer) -> bool {
-    match shelf.try_borrow_mut() {
-        Ok(mut shelf) => shelf.note(batch, answer),
-        Err(_) => false,
+        Ok(mut shelf) => act(&mut shelf),
+        Err(_) => otherwise,
     }
 }

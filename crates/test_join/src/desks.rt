@@ -6,14 +6,14 @@ ghost use Rattle.reg_topic.specs.Topic.{topic_from};
 ghost use Rattle.reg_shared.specs.Held.{held_of};
 
 use crate::chains::Handle;
-use crate::opening::{Common, empty_log};
+use crate::opening::Common;
 use crate::runs::len_of;
 use crate::turns::{Turn, comes_out};
 use reg_feed::{Copies, FeedName, Unnamed, feed};
 use reg_join::JoinKeep;
 use reg_join_desk::{JoinedDesk, JoinedPen, LogWaits, SharedCheck};
 use reg_judge::Judge;
-use reg_node::{Draw, Follower, Taken, View};
+use reg_node::{Draw, Follower, NodeView, Taken};
 use reg_pen::{KeptLog, Opened, Pass, open};
 use reg_records::Log;
 use reg_shared::Shared;
@@ -25,11 +25,13 @@ use std::sync::{Mutex, Wait};
 use std::test::Fail;
 use std::thread::Parker;
 use std::time::Clock;
+use test_tools::chain;
+use test_words::empty_log;
 
 /// Takes the turn at the desk of a new process. Gives its first step that doesn't come out as it says, or their number where its end doesn't.
 pub(crate) fn wrong_step<R: Wait + Clock + Drop + Copy>(
     common: &Common<R>,
-    turn: &Turn,
+    turn: &Turn<'_>,
     keys: RandomState,
 ) -> Result<Option<usize>, Fail> {
     let log = empty_log(common.alloc)?;
@@ -43,7 +45,7 @@ fn with_pen<N: FeedName<Item, Shared>, R: Wait + Clock + Drop + Copy>(
     list: Unnamed<Item>,
     log: Log,
     chain: Handle,
-    turn: &Turn,
+    turn: &Turn<'_>,
     keys: RandomState,
 ) -> Result<Option<usize>, Fail>
     requires name { (list.reached.book ≡ N.book) × (N.first ≡ held_of (topic_from log.records.items log.next log.floor)) }
@@ -68,7 +70,7 @@ fn beside_pen<N: FeedName<Item, Shared>, S: Copies<Item, Shared, N>, R: Wait + C
     common: &Common<R>,
     pen: &mut Mutex<JoinedPen<N, S, Handle, R>>,
     pass: Pass<N>,
-    turn: &Turn,
+    turn: &Turn<'_>,
     keys: RandomState,
 ) -> Result<Option<usize>, Fail>
     requires { N.first.kept.floor ≤ N.first.next }
@@ -86,7 +88,7 @@ fn with_node<
     list: Unnamed<Draw>,
     pen: &mut Mutex<JoinedPen<N, S, Handle, R>>,
     pass: Pass<N>,
-    turn: &Turn,
+    turn: &Turn<'_>,
     keys: RandomState,
 ) -> Result<Option<usize>, Fail>
     requires name { (list.reached.book ≡ M.book) × (M.first ≡ empty) }
@@ -112,8 +114,8 @@ fn at_desk<
     pen: &Mutex<JoinedPen<N, S, Handle, R>>,
     follower: &Mutex<Follower<N, S, M, U, R>>,
     pass: Pass<N>,
-    view: View<M, U>,
-    turn: &Turn,
+    view: NodeView<M, U>,
+    turn: &Turn<'_>,
     keys: RandomState,
 ) -> Result<Option<usize>, Fail> {
     let (rt, alloc) = (&common.rt, common.alloc);

@@ -11,7 +11,6 @@ use crate::runs::{Run, make_run};
 use reg_feed::{FeedName, Stored, Unnamed};
 use reg_join::JoinKeep;
 use reg_pen::{Keep, KeptLog, Opened, open};
-use reg_records::{Device, Log, read_log};
 use reg_shared::Shared;
 use reg_topic::Item;
 use std::alloc::{AllocError, Global};
@@ -19,6 +18,8 @@ use std::cell::RefCell;
 use std::marker::Brand;
 use std::rc::Rc;
 use std::sync::Wait;
+use test_tools::Made;
+use test_words::empty_log;
 
 /// What all are opened over.
 #[derive(Drop)]
@@ -34,7 +35,7 @@ pub(crate) trait Course {
         &mut self,
         common: &Common<R>,
         processes: &mut P,
-    ) -> Result<(), AllocError>;
+    ) -> Made<()>;
 }
 
 /// Opens one process more before the rest is done.
@@ -48,7 +49,7 @@ impl<C: Course + Drop> Course for OneMore<C> {
         &mut self,
         common: &Common<R>,
         processes: &mut P,
-    ) -> Result<(), AllocError> {
+    ) -> Made<()> {
         with_one_more(common, processes, &mut self.rest)
     }
 }
@@ -57,7 +58,7 @@ fn with_one_more<R: Wait + Drop + Copy, P: Processes, C: Course>(
     common: &Common<R>,
     others: &mut P,
     rest: &mut C,
-) -> Result<(), AllocError> {
+) -> Made<()> {
     let kept = kept_chain(common)?;
     beside_others::<Brand, R, P, C>(common, Unnamed::new(), kept, others, rest)
 }
@@ -68,7 +69,7 @@ fn beside_others<N: FeedName<Item, Shared>, R: Wait + Drop + Copy, P: Processes,
     kept: KeptLog<JoinKeep<Handle>>,
     others: &mut P,
     rest: &mut C,
-) -> Result<(), AllocError>
+) -> Made<()>
     requires { (list.reached.book ≡ N.book) × (N.first ≡ held_of (topic_from kept.log.records.items kept.log.next kept.log.floor)) }
 {
     let mut process = opened::<N, JoinKeep<Handle>, R>(common, list, kept)?;
@@ -92,7 +93,7 @@ impl Course for BesidePlain {
         &mut self,
         common: &Common<R>,
         processes: &mut P,
-    ) -> Result<(), AllocError> {
+    ) -> Made<()> {
         with_plain(common, processes, &mut self.run)
     }
 }
@@ -101,7 +102,7 @@ fn with_plain<R: Wait + Drop + Copy, P: Processes>(
     common: &Common<R>,
     processes: &mut P,
     run: &mut Run,
-) -> Result<(), AllocError> {
+) -> Made<()> {
     let kept = kept_plain(common)?;
     beside_plain::<Brand, R, P>(common, Unnamed::new(), kept, processes, run)
 }
@@ -112,7 +113,7 @@ fn beside_plain<N: FeedName<Item, Shared>, R: Wait + Drop + Copy, P: Processes>(
     kept: KeptLog<Comparing>,
     processes: &mut P,
     run: &mut Run,
-) -> Result<(), AllocError>
+) -> Made<()>
     requires { (list.reached.book ≡ N.book) × (N.first ≡ held_of (topic_from kept.log.records.items kept.log.next kept.log.floor)) }
 {
     let mut plain = opened::<N, Comparing, R>(common, list, kept)?;
@@ -120,25 +121,16 @@ fn beside_plain<N: FeedName<Item, Shared>, R: Wait + Drop + Copy, P: Processes>(
 }
 
 /// An empty log, with a keep over the shared chain.
-fn kept_chain<R: Wait + Drop + Copy>(
-    common: &Common<R>,
-) -> Result<KeptLog<JoinKeep<Handle>>, AllocError> {
+fn kept_chain<R: Wait + Drop + Copy>(common: &Common<R>) -> Made<KeptLog<JoinKeep<Handle>>> {
     let log = empty_log(common.alloc)?;
     let handle = Handle::new(common.alloc, common.shelf.clone()?);
     Ok(KeptLog::new(log, JoinKeep::new(handle)))
 }
 
 /// An empty log, with a keep that compares batches with the shared chain's.
-fn kept_plain<R: Wait + Drop + Copy>(common: &Common<R>) -> Result<KeptLog<Comparing>, AllocError> {
+fn kept_plain<R: Wait + Drop + Copy>(common: &Common<R>) -> Made<KeptLog<Comparing>> {
     let log = empty_log(common.alloc)?;
     Ok(KeptLog::new(log, Comparing::new(common.shelf.clone()?)))
-}
-
-pub(crate) fn empty_log(alloc: Global) -> Result<Log, AllocError> {
-    match read_log(alloc, &mut Device::new(b"".as_slice())) {
-        Ok(log) => Ok(log),
-        Err(_) => Err(AllocError),
-    }
 }
 
 /// A process that is opened over the log and its keep.
@@ -146,20 +138,18 @@ fn opened<N: FeedName<Item, Shared>, K: Keep + Drop, R: Wait + Drop + Copy>(
     common: &Common<R>,
     list: Unnamed<Item>,
     kept: KeptLog<K>,
-) -> Result<Process<N, Stored<Item, Shared, N>, K, R>, AllocError>
+) -> Made<Process<N, Stored<Item, Shared, N>, K, R>>
     requires { (list.reached.book ≡ N.book) × (N.first ≡ held_of (topic_from kept.log.records.items kept.log.next kept.log.floor)) }
 {
-    match open::<N, K, R>(common.rt, common.alloc, list, kept, 1, 1) {
-        Ok(opened) => {
-            let Opened { pen, mut passes } = opened;
-            match passes.pop() {
-                Some(pass) => Ok(Process {
-                    pen: Box::new(common.alloc, pen)?,
-                    pass,
-                }),
-                None => Err(AllocError),
-            }
-        }
-        Err(_) => Err(AllocError),
+    let Ok(opened) = open::<N, K, R>(common.rt, common.alloc, list, kept, 1, 1) else {
+        return Err(AllocError);
+    };
+    let Opened { pen, mut passes } = opened;
+    match passes.pop() {
+        Some(pass) => Ok(Process {
+            pen: Box::new(common.alloc, pen)?,
+            pass,
+        }),
+        None => Err(AllocError),
     }
 }

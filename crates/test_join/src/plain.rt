@@ -1,5 +1,5 @@
 // A plain registry beside the chain, which does each command at its place.
-use crate::chains::Shelf;
+use crate::chains::{Shelf, on_shelf};
 use crate::processes::{Process, kept_records};
 use reg_feed::{Copies, FeedName, Seen};
 use reg_leader::{Command, Reply};
@@ -7,10 +7,10 @@ use reg_pen::{Keep, Kept, Submitted};
 use reg_records::Record;
 use reg_shared::Shared;
 use reg_topic::Item;
-use std::alloc::AllocError;
 use std::cell::RefCell;
 use std::rc::Rc;
 use std::sync::Wait;
+use test_tools::Made;
 
 /// What tests do with the plain registry.
 pub(crate) trait Plain {
@@ -24,7 +24,7 @@ pub(crate) trait Plain {
     fn is_right(&self) -> bool;
 
     /// All records that are kept.
-    fn records(&mut self) -> Result<Vec<Record>, AllocError>;
+    fn records(&mut self) -> Made<Vec<Record>>;
 }
 
 /// Takes each batch, and compares it with the chain's at its place.
@@ -52,18 +52,12 @@ impl Keep for Comparing {
     ghost keeps = { λ _ _ _ _. ⊤ };
 
     fn keep(&mut self, batch: &[Record]) -> Kept {
-        if !stands_at(&self.shelf, self.taken, batch) {
+        let taken = self.taken;
+        if !on_shelf(&self.shelf, false, |shelf| shelf.stands_at(taken, batch)) {
             self.is_wrong = true;
         }
         self.taken = self.taken.saturating_add(1);
         Kept::Taken
-    }
-}
-
-fn stands_at(shelf: &RefCell<Shelf>, place: usize, batch: &[Record]) -> bool {
-    match shelf.try_borrow() {
-        Ok(shelf) => shelf.stands_at(place, batch),
-        Err(_) => false,
     }
 }
 
@@ -86,25 +80,7 @@ impl<N: FeedName<Item, Shared>, S: Copies<Item, Shared, N>, R: Wait + Drop> Plai
         !self.pen.keep().is_wrong
     }
 
-    fn records(&mut self) -> Result<Vec<Record>, AllocError> {
+    fn records(&mut self) -> Made<Vec<Record>> {
         kept_records(&mut self.pen)
-    }
-}
-
-/// Whether these are the same replies.
-pub(crate) fn is_same_reply(reply: &Reply, other: &Reply) -> bool {
-    match (reply, other) {
-        (Reply::Id(id), Reply::Id(other)) => id == other,
-        (Reply::Version(version), Reply::Version(other)) => version == other,
-        (Reply::Versions(versions), Reply::Versions(others)) => {
-            versions.as_slice() == others.as_slice()
-        }
-        (Reply::Level(level), Reply::Level(other)) => level == other,
-        (Reply::LevelRemoved(level), Reply::LevelRemoved(other)) => level == other,
-        (Reply::Mode(mode), Reply::Mode(other)) => mode == other,
-        (Reply::ModeRemoved(mode), Reply::ModeRemoved(other)) => mode == other,
-        (Reply::Nothing, Reply::Nothing) => true,
-        (Reply::Refused(refusal), Reply::Refused(other)) => refusal == other,
-        _ => false,
     }
 }

@@ -1,6 +1,6 @@
 // Processes over one chain, whatever their feeds are named.
 use crate::chains::Handle;
-use reg_feed::{Copies, FeedName, FeedReader, Seen};
+use reg_feed::{Copies, FeedName, Seen};
 use reg_join::{JoinKeep, JoinOutcome, JoinSubmitted, Patience, TakenIn, submit_joined, take_in};
 use reg_leader::Command;
 use reg_pen::{Keep, Pass, Pen};
@@ -9,6 +9,7 @@ use reg_shared::Shared;
 use reg_topic::Item;
 use std::alloc::{AllocError, Global};
 use std::sync::Wait;
+use test_tools::Made;
 
 /// What tests do with processes.
 pub(crate) trait Processes {
@@ -76,7 +77,9 @@ impl<
     }
 
     fn all_keep(&mut self, alloc: Global, records: &[Record]) -> bool {
-        keeps_after_all(alloc, self.first, records) && self.others.all_keep(alloc, records)
+        takes_all(alloc, self.first)
+            && keeps(&mut self.first.pen, records)
+            && self.others.all_keep(alloc, records)
     }
 }
 
@@ -108,15 +111,6 @@ fn do_command<N: FeedName<Item, Shared>, S: Copies<Item, Shared, N>, R: Wait + D
         &Endless,
     );
     outcome
-}
-
-/// Whether all that was told is taken in, and exactly these records are kept then.
-fn keeps_after_all<N: FeedName<Item, Shared>, S: Copies<Item, Shared, N>, R: Wait + Drop>(
-    alloc: Global,
-    process: &mut Process<N, S, JoinKeep<Handle>, R>,
-    records: &[Record],
-) -> bool {
-    takes_all(alloc, process) && keeps(&mut process.pen, records)
 }
 
 /// Takes in all that was told; whether it did.
@@ -151,16 +145,10 @@ pub(crate) fn kept_records<
     S: Copies<Item, Shared, N>,
     K: Keep + Drop,
     R: Wait + Drop,
->(pen: &mut Pen<N, S, K, R>) -> Result<Vec<Record>, AllocError> {
-    match pen.reader() {
-        Ok(mut topic) => read_records(&mut topic),
-        Err(_) => Err(AllocError),
-    }
-}
-
-fn read_records<N: FeedName<Item, Shared>, S: Copies<Item, Shared, N>>(
-    topic: &mut FeedReader<Item, Shared, N, S>,
-) -> Result<Vec<Record>, AllocError> {
+>(pen: &mut Pen<N, S, K, R>) -> Made<Vec<Record>> {
+    let Ok(mut topic) = pen.reader() else {
+        return Err(AllocError);
+    };
     match topic.read(|shared| shared.since(0)) {
         Some(records) => records,
         None => Err(AllocError),

@@ -1,17 +1,17 @@
 // Commands that are drawn, at five processes in drawn turns.
-use crate::chains::Shelf;
+use crate::chains::{Shelf, on_shelf};
 use crate::commands::drawn_command;
 use crate::opening::{BesidePlain, Common, Course, OneMore};
-use crate::plain::{Plain, is_same_reply};
+use crate::plain::Plain;
 use crate::processes::{Nobody, Processes};
 use reg_join::JoinOutcome;
-use reg_leader::{Command, Reply};
-use std::alloc::{AllocError, Global};
+use reg_leader::Command;
+use std::alloc::Global;
 use std::cell::RefCell;
 use std::rc::Rc;
 use std::sync::Wait;
 use std::test::Fail;
-use test_tools::Draws;
+use test_tools::{Draws, Made};
 
 /// How many runs there are, each over a chain of its own.
 const RUNS: u64 = 20;
@@ -22,57 +22,27 @@ const COMMANDS: u64 = 1_000;
 /// How many processes there are.
 const PROCESSES: u64 = 5;
 
-/// Which outcomes came up.
-#[derive(Drop)]
-struct Kinds {
-    replied: bool,
-    unsettled: bool,
-    live: bool,
-    no_memory: bool,
-    declined: bool,
-    /// That others came first each time, or that what was told is no command's: neither can be here.
-    impossible: bool,
-    /// A batch came to stand late.
-    late: bool,
-    /// Others came first once.
-    behind: bool,
-}
+/// Which outcomes came up, by their numbers: those of `kind_of`, and then that a batch came to stand late, and that others came first once.
+type Kinds = [bool; 8];
 
-impl Kinds {
-    fn none() -> Kinds {
-        Kinds {
-            replied: false,
-            unsettled: false,
-            live: false,
-            no_memory: false,
-            declined: false,
-            impossible: false,
-            late: false,
-            behind: false,
-        }
-    }
+/// That others came first each time, or that what was told is no command's: neither can be here.
+const IMPOSSIBLE: usize = 5;
 
-    fn note(&mut self, outcome: &JoinOutcome) {
-        match outcome {
-            JoinOutcome::Replied(_) => self.replied = true,
-            JoinOutcome::Unsettled(_) => self.unsettled = true,
-            JoinOutcome::Live(_) => self.live = true,
-            JoinOutcome::NoMemory => self.no_memory = true,
-            JoinOutcome::Declined => self.declined = true,
-            JoinOutcome::Overtaken | JoinOutcome::Stopped => self.impossible = true,
-        }
-    }
+const LATE: usize = 6;
 
-    /// Whether all came up that can.
-    fn are_all(&self) -> bool {
-        self.replied
-            && self.unsettled
-            && self.live
-            && self.no_memory
-            && self.declined
-            && self.late
-            && self.behind
-            && !self.impossible
+const BEHIND: usize = 7;
+
+/// All that can come up.
+const ALL: Kinds = [true, true, true, true, true, false, true, true];
+
+fn kind_of(outcome: &JoinOutcome) -> usize {
+    match outcome {
+        JoinOutcome::Replied(_) => 0,
+        JoinOutcome::Unsettled(_) => 1,
+        JoinOutcome::Live(_) => 2,
+        JoinOutcome::NoMemory => 3,
+        JoinOutcome::Declined => 4,
+        JoinOutcome::Overtaken | JoinOutcome::Stopped => IMPOSSIBLE,
     }
 }
 
@@ -93,7 +63,13 @@ impl Run {
             draws: Draws::new(100),
             unknown: None,
             wrong: None,
-            kinds: Kinds::none(),
+            kinds: [false; 8],
+        }
+    }
+
+    fn note(&mut self, kind: usize) {
+        if let Some(came) = self.kinds.get_mut(kind) {
+            *came = true;
         }
     }
 
@@ -111,23 +87,13 @@ pub(crate) fn make_run<L: Plain, P: Processes>(
     plain: &mut L,
     processes: &mut P,
     run: &mut Run,
-) -> Result<(), AllocError> {
+) -> Made<()> {
     for turn in 0..COMMANDS {
         take_turn(alloc, shelf, plain, processes, turn, run)?;
     }
-    end(alloc, shelf, plain, processes, run)
-}
-
-/// Compares what all keep, once there are no faults any more.
-fn end<L: Plain, P: Processes>(
-    alloc: Global,
-    shelf: &RefCell<Shelf>,
-    plain: &mut L,
-    processes: &mut P,
-    run: &mut Run,
-) -> Result<(), AllocError> {
-    if mend(shelf) {
-        run.kinds.behind = true;
+    // All keep the same once there are no faults any more.
+    if on_shelf(shelf, false, |shelf| shelf.mend()) {
+        run.note(BEHIND);
     }
     let records = plain.records()?;
     if !processes.all_keep(alloc, &records) {
@@ -144,12 +110,12 @@ fn take_turn<L: Plain, P: Processes>(
     processes: &mut P,
     turn: u64,
     run: &mut Run,
-) -> Result<(), AllocError> {
+) -> Made<()> {
     let number = run.draws.below(1_000_000_000);
     let command = drawn_command(alloc, number)?;
     let process = run.draws.below(PROCESSES);
     let outcome = processes.do_by(alloc, process, &command);
-    if !follow(alloc, shelf, plain, &command, &outcome, run) {
+    if !follow(alloc, shelf, plain, &command, &outcome, run)? {
         run.find_wrong(turn);
     }
     if matches!(outcome, JoinOutcome::Unsettled(_)) {
@@ -166,64 +132,48 @@ fn follow<L: Plain>(
     command: &Command,
     outcome: &JoinOutcome,
     run: &mut Run,
-) -> bool {
-    run.kinds.note(outcome);
-    if is_late(shelf, plain.written()) {
-        run.kinds.late = true;
+) -> Made<bool> {
+    run.note(kind_of(outcome));
+    let place = plain.written();
+    if on_shelf(shelf, false, |shelf| shelf.came_late(place)) {
+        run.note(LATE);
         if !follow_late(alloc, plain, run.unknown) {
-            return false;
+            return Ok(false);
         }
     }
-    replies(plain, command, outcome) && plain.is_right() && plain.written() == len_of(shelf)
+    let is_so = replies(alloc, plain, command, outcome)?;
+    Ok(is_so && plain.is_right() && plain.written() == len_of(shelf))
 }
 
 /// Does the command of that number, which came to stand late; whether there is one.
 fn follow_late<L: Plain>(alloc: Global, plain: &mut L, number: Option<u64>) -> bool {
-    let Some(number) = number else {
-        return false;
-    };
-    match drawn_command(alloc, number) {
-        Ok(command) => {
+    match number.map(|number| drawn_command(alloc, number)) {
+        Some(Ok(command)) => {
             let _reply = plain.reply(&command);
             true
         }
-        Err(AllocError) => false,
+        _ => false,
     }
 }
 
 /// Whether the plain registry replies as the outcome says.
-fn replies<L: Plain>(plain: &mut L, command: &Command, outcome: &JoinOutcome) -> bool {
-    match outcome {
-        JoinOutcome::Replied(reply) => is_same_reply(&plain.reply(command), reply),
-        JoinOutcome::Live(id) => is_same_reply(&plain.reply(command), &Reply::Id(*id)),
-        _ => true,
-    }
-}
-
-/// Whether the batch at that place came late.
-fn is_late(shelf: &RefCell<Shelf>, place: usize) -> bool {
-    match shelf.try_borrow() {
-        Ok(shelf) => shelf.came_late(place),
-        Err(_) => false,
-    }
+fn replies<L: Plain>(
+    alloc: Global,
+    plain: &mut L,
+    command: &Command,
+    outcome: &JoinOutcome,
+) -> Made<bool> {
+    let told = match outcome {
+        JoinOutcome::Replied(reply) => format!(in alloc; "{reply:?}")?,
+        JoinOutcome::Live(id) => format!(in alloc; "Id({id})")?,
+        _ => return Ok(true),
+    };
+    let came = format!(in alloc; "{:?}", plain.reply(command))?;
+    Ok(came.as_str() == told.as_str())
 }
 
 pub(crate) fn len_of(shelf: &RefCell<Shelf>) -> usize {
-    match shelf.try_borrow() {
-        Ok(shelf) => shelf.len(),
-        Err(_) => 0,
-    }
-}
-
-/// From now on there are no faults. Whether others came first once.
-fn mend(shelf: &RefCell<Shelf>) -> bool {
-    match shelf.try_borrow_mut() {
-        Ok(mut shelf) => {
-            shelf.mend();
-            shelf.was_behind()
-        }
-        Err(_) => false,
-    }
+    on_shelf(shelf, 0, |shelf| shelf.len())
 }
 
 /// Makes a run of five processes over a new chain, and a plain registry beside them.
@@ -232,7 +182,7 @@ fn run_over_new<R: Wait + Drop + Copy>(
     rt: R,
     seed: u64,
     five: &mut Five,
-) -> Result<(), AllocError> {
+) -> Made<()> {
     let common = Common {
         alloc,
         rt,
@@ -265,6 +215,6 @@ fn five_pens_keep_the_same(rt: HostRuntime) -> Result<(), Fail> {
         run_over_new(rt.alloc(), &rt, seed, &mut five)?;
         assert_eq!(rt; (seed, run_of(&five).wrong), (seed, None));
     }
-    assert!(rt; run_of(&five).kinds.are_all());
+    assert_eq!(rt; run_of(&five).kinds, ALL);
     Ok(())
 }

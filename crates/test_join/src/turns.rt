@@ -2,39 +2,23 @@
 use crate::chains::Shelf;
 use crate::desks::wrong_step;
 use crate::opening::Common;
-use base_text::Text;
-use reg_fold::VersionRef;
-use reg_http::{Asked, Desk, reply_answer};
-use reg_leader::Command;
-use reg_level_names::Level;
-use reg_lookup::Query;
+use reg_http::{Desk, reply_answer};
 use std::alloc::{AllocError, Global};
 use std::cell::RefCell;
 use std::hash::RandomState;
 use std::rc::Rc;
+use std::sync::Wait;
 use std::test::Fail;
-
-/// What is asked of the subject `s`, or of all.
-pub(crate) enum Ask {
-    /// A schema's text.
-    Register(&'static str),
-    SetLevel(Level),
-    /// A version, softly.
-    Delete(u32),
-    Versions,
-    Level,
-    /// The schema of an id.
-    Schema(u32),
-}
-
-/// What is asked, and the status and the body of what is answered.
-pub(crate) type Step = (Ask, u16, &'static str);
+use std::time::Clock;
+use test_tools::{Said, Tally, cut, halves, paragraphs_of, rows_of, small_of};
+use test_words::{answer_text, command_in_words, query_in_words};
 
 /// Steps at the desk of a process that begins with an empty log, after the turns before.
-pub(crate) struct Turn {
+#[derive(Drop)]
+pub(crate) struct Turn<'a> {
     /// How many workers may wait for the log.
     pub(crate) waits: u32,
-    pub(crate) steps: &'static [Step],
+    pub(crate) steps: &'a [&'a str],
     /// From which step on the desk is fresh.
     pub(crate) fresh_from: usize,
     /// How many batches the chain has at the end.
@@ -43,149 +27,116 @@ pub(crate) struct Turn {
     pub(crate) is_wanted: bool,
 }
 
-const NO_SUBJECT: &str = "{\"error_code\":40401,\"message\":\"Subject not found\"}";
+/// Each turn has a line with how many workers may wait, from which step on the desk is fresh, how many batches the chain has at the end,
+/// and whether a check is `wanted` then. Then come its steps: a command or a query, and the status and the body of what is answered.
+static TURNS: &str = r#"
+# Nobody else has written.
+1 0 4 none
+register s "int" => 200 {"id":1}
+versions s => 200 [1]
+schema 1 => 200 {"schema":"\"int\""}
+register s "long" => 200 {"id":2}
+versions s => 200 [1,2]
+schema 2 => 200 {"schema":"\"long\""}
+register s  "int"  => 200 {"id":1}
+versions s => 200 [1,2]
+set_level * FULL => 200 {"compatibility":"FULL"}
+level * => 200 {"compatibilityLevel":"FULL"}
+delete s 1 => 200 1
+versions s => 200 [2]
 
-const NO_SCHEMA: &str = "{\"error_code\":40403,\"message\":\"Schema not found\"}";
+# The first command takes in what another one wrote, and is refused for it.
+1 1 5 none
+versions s => 404 {"error_code":40401,"message":"Subject not found"}
+register s "string" => 409 {"error_code":409,"message":"Incompatible with version 2, BACKWARD, at /: TYPE_MISMATCH"}
+versions s => 200 [2]
+set_level * NONE => 200 {"compatibility":"NONE"}
 
-const DECLINED: &str = "{\"error_code\":50302,\"message\":\"Store error: declined\"}";
+# The next id and the next version come after those of the others.
+1 0 6 none
+register s "string" => 200 {"id":3}
+versions s => 200 [2,3]
+schema 1 => 200 {"schema":"\"int\""}
+level * => 200 {"compatibilityLevel":"NONE"}
 
-const CLASH: &str =
-    "{\"error_code\":409,\"message\":\"Incompatible with version 2, BACKWARD, at /: TYPE_MISMATCH\"}";
+# Nobody may wait for the log.
+0 5 6 none
+register s "long" => 503 {"error_code":50302,"message":"Store error: declined"}
+set_level * FULL => 503 {"error_code":50302,"message":"Store error: declined"}
+level * => 200 {"compatibilityLevel":"BACKWARD"}
+versions s => 404 {"error_code":40401,"message":"Subject not found"}
+schema 2 => 404 {"error_code":40403,"message":"Schema not found"}
 
-const FULL: &str = "{\"compatibility\":\"FULL\"}";
+# A lookup wants a check that nobody makes. Then the same schema as another's is registered, and nothing is written.
+1 1 6 wanted
+schema 2 => 404 {"error_code":40403,"message":"Schema not found"}
+register s "long" => 200 {"id":2}
+schema 2 => 200 {"schema":"\"long\""}
+"#;
 
-const NONE: &str = "{\"compatibility\":\"NONE\"}";
-
-static TURNS: [Turn; 5] = [
-    // Nobody else has written.
-    Turn {
-        waits: 1,
-        steps: &[
-            (Ask::Register("\"int\""), 200, "{\"id\":1}"),
-            (Ask::Versions, 200, "[1]"),
-            (Ask::Schema(1), 200, "{\"schema\":\"\\\"int\\\"\"}"),
-            (Ask::Register("\"long\""), 200, "{\"id\":2}"),
-            (Ask::Versions, 200, "[1,2]"),
-            (Ask::Schema(2), 200, "{\"schema\":\"\\\"long\\\"\"}"),
-            (Ask::Register(" \"int\" "), 200, "{\"id\":1}"),
-            (Ask::Versions, 200, "[1,2]"),
-            (Ask::SetLevel(Level::Full), 200, FULL),
-            (Ask::Level, 200, "{\"compatibilityLevel\":\"FULL\"}"),
-            (Ask::Delete(1), 200, "1"),
-            (Ask::Versions, 200, "[2]"),
-        ],
-        fresh_from: 0,
-        batches: 4,
-        is_wanted: false,
-    },
-    // The first command takes in what another one wrote, and is refused for it.
-    Turn {
-        waits: 1,
-        steps: &[
-            (Ask::Versions, 404, NO_SUBJECT),
-            (Ask::Register("\"string\""), 409, CLASH),
-            (Ask::Versions, 200, "[2]"),
-            (Ask::SetLevel(Level::None), 200, NONE),
-        ],
-        fresh_from: 1,
-        batches: 5,
-        is_wanted: false,
-    },
-    // The next id and the next version come after those of the others.
-    Turn {
-        waits: 1,
-        steps: &[
-            (Ask::Register("\"string\""), 200, "{\"id\":3}"),
-            (Ask::Versions, 200, "[2,3]"),
-            (Ask::Schema(1), 200, "{\"schema\":\"\\\"int\\\"\"}"),
-            (Ask::Level, 200, "{\"compatibilityLevel\":\"NONE\"}"),
-        ],
-        fresh_from: 0,
-        batches: 6,
-        is_wanted: false,
-    },
-    // Nobody may wait for the log.
-    Turn {
-        waits: 0,
-        steps: &[
-            (Ask::Register("\"long\""), 503, DECLINED),
-            (Ask::SetLevel(Level::Full), 503, DECLINED),
-            (Ask::Level, 200, "{\"compatibilityLevel\":\"BACKWARD\"}"),
-            (Ask::Versions, 404, NO_SUBJECT),
-            (Ask::Schema(2), 404, NO_SCHEMA),
-        ],
-        fresh_from: 5,
-        batches: 6,
-        is_wanted: false,
-    },
-    // A lookup wants a check that nobody makes. Then the same schema as another's is registered, and nothing is written.
-    Turn {
-        waits: 1,
-        steps: &[
-            (Ask::Schema(2), 404, NO_SCHEMA),
-            (Ask::Register("\"long\""), 200, "{\"id\":2}"),
-            (Ask::Schema(2), 200, "{\"schema\":\"\\\"long\\\"\"}"),
-        ],
-        fresh_from: 1,
-        batches: 6,
-        is_wanted: true,
-    },
-];
-
-fn asked_of(alloc: Global, ask: &Ask) -> Result<Asked, AllocError> {
-    let subject = Text::copy_of(alloc, "s")?;
-    match ask {
-        Ask::Register(text) => {
-            let text = Text::copy_of(alloc, text)?;
-            Ok(Asked::Command(Command::Register { subject, text }))
-        }
-        Ask::SetLevel(level) => Ok(Asked::Command(Command::SetLevel {
-            subject: None,
-            level: *level,
-        })),
-        Ask::Delete(version) => Ok(Asked::Command(Command::DeleteVersion {
-            subject,
-            version: VersionRef::Number(*version),
-            permanent: false,
-        })),
-        Ask::Versions => Ok(Asked::Query(Query::Versions {
-            subject,
-            deleted: false,
-        })),
-        Ask::Level => Ok(Asked::Query(Query::Level {
-            subject: None,
-            default_global: false,
-        })),
-        Ask::Schema(id) => Ok(Asked::Query(Query::SchemaById { id: *id })),
-    }
+/// The turn of a first line and its steps.
+fn turn_of<'a>(first: &str, steps: &'a [&'a str]) -> Said<Turn<'a>> {
+    let (waits, rest) = cut(first);
+    let (fresh_from, rest) = cut(rest);
+    let (batches, wanted) = cut(rest);
+    Ok(Turn {
+        waits: small_of(waits)?,
+        steps,
+        fresh_from: small_of(fresh_from)? as usize,
+        batches: small_of(batches)? as usize,
+        is_wanted: wanted == "wanted",
+    })
 }
 
 /// Whether what is asked in the step is answered at the desk as it says.
-pub(crate) fn comes_out<D: Desk>(
-    alloc: Global,
-    desk: &mut D,
-    step: &Step,
-) -> Result<bool, AllocError> {
-    let answer = match asked_of(alloc, &step.0)? {
-        Asked::Query(query) => desk.ask(alloc, &query)?,
-        Asked::Command(command) => reply_answer(alloc, &desk.command(&command))?,
-        Asked::Refused { .. } => return Ok(false),
+pub(crate) fn comes_out<D: Desk>(alloc: Global, desk: &mut D, step: &str) -> Said<bool> {
+    let (asked, wanted) = halves(step);
+    let answer = match query_in_words(alloc, asked) {
+        Ok(query) => desk.ask(alloc, &query)?,
+        Err(_) => reply_answer(alloc, &desk.command(&command_in_words(alloc, asked)?))?,
     };
-    Ok(answer.status == step.1 && answer.body.as_str() == step.2)
+    let came = answer_text(alloc, &answer)?;
+    Ok(came.as_str() == wanted)
+}
+
+/// The first step of a turn that doesn't come out, or their number where its end doesn't.
+fn wrong_step_in<R: Wait + Clock + Drop + Copy>(
+    common: &Common<R>,
+    paragraph: &str,
+    keys: RandomState,
+) -> Result<Option<usize>, Fail> {
+    let rows = rows_of(common.alloc, paragraph)?;
+    let (first, steps) = rows.split_first().ok_or(AllocError)?;
+    wrong_step(common, &turn_of(first, steps)?, keys)
+}
+
+/// Takes each turn. What all are opened over is lent, so that it hasn't to be dropped on the way.
+fn take_turns<R: Wait + Clock + Drop + Copy>(
+    common: &Common<R>,
+    keys: RandomState,
+    tally: &mut Tally,
+) -> Result<(), Fail> {
+    for paragraph in &paragraphs_of(common.alloc, TURNS)? {
+        let came = match wrong_step_in(common, paragraph, keys)? {
+            Some(place) => format!(in common.alloc; "wrong at {place}")?,
+            None => String::new(common.alloc),
+        };
+        tally.count(paragraph, b"", came.as_bytes())?;
+    }
+    Ok(())
 }
 
 #[test]
 fn desks_take_in_what_others_wrote(rt: HostRuntime) -> Result<(), Fail> {
     let mut shelf = Shelf::new(rt.alloc(), 0);
-    shelf.mend();
+    let _was_behind = shelf.mend();
     let common = Common {
         alloc: rt.alloc(),
         rt: &rt,
         shelf: Rc::new(rt.alloc(), RefCell::new(shelf))?,
     };
-    let keys = RandomState::new(&rt)?;
-    for (place, turn) in TURNS.iter().enumerate() {
-        assert_eq!(rt; (place, wrong_step(&common, turn, keys)?), (place, None));
-    }
+    let mut tally = Tally::new(rt.alloc());
+    take_turns(&common, RandomState::new(&rt)?, &mut tally)?;
+    assert_eq!(rt; (tally.cases(), tally.others()), (5, ""));
     Ok(())
 }

@@ -4,11 +4,12 @@ ghost use Rattle.reg_records.specs.Written.{HasLine};
 
 use base_text::Text;
 use reg_records::{Key, Record, ValueText, has_line, write_line};
-use std::alloc::{AllocError, Global};
+use std::alloc::Global;
 use std::test::Fail;
+use test_tools::Made;
 
 /// That many records of no operation, the first at that offset.
-pub(crate) fn batch_of(alloc: Global, first: u64, count: u64) -> Result<Vec<Record>, AllocError>
+pub(crate) fn batch_of(alloc: Global, first: u64, count: u64) -> Made<Vec<Record>>
     ensures { IfOk result (λ batch. All HasLine batch.items) }
 {
     let mut batch = Vec::new(alloc);

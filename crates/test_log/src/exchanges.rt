@@ -1,4 +1,5 @@
 // A command and an adapter that answers it, each in a thread.
+use crate::faults::NotFlushed;
 use reg_adapter::Messages;
 use reg_adapter_line::{
     AdapterChain, AdapterLine, LineEnd, read_messages, send_requests, tell_all,
@@ -6,7 +7,7 @@ use reg_adapter_line::{
 use reg_chain::{Chain, ChainAnswer};
 use reg_records::{Key, Record};
 use std::alloc::Global;
-use std::io::{self, ErrorKind, Write};
+use std::io::{self, ErrorKind};
 use std::sync::{Arc, Wait};
 use std::test::Fail;
 use std::thread::{self, Threads};
@@ -201,33 +202,14 @@ fn nobody_asked(rt: HostRuntime) -> Result<(), Fail> {
     Ok(())
 }
 
-/// A writer that takes all bytes, and then fails to hand them on.
-#[derive(Drop)]
-struct Holding {
-    bytes: Vec<u8>,
-}
-
-impl Write for Holding {
-    fn write(&mut self, buf: &[u8]) -> io::Result<usize> {
-        self.bytes.extend_from_slice(buf)?;
-        Ok(buf.len())
-    }
-
-    fn flush(&mut self) -> io::Result<()> {
-        Err(io::Error::from(ErrorKind::Other))
-    }
-}
-
 #[test]
 fn a_request_is_not_handed_on(rt: HostRuntime) -> Result<(), Fail> {
     let alloc = rt.alloc();
     let (line, mut chain) = begin(rt, alloc, SHORT)?;
     assert_eq!(rt; chain.append(&[]), ChainAnswer::Declined);
-    let mut writer = Holding {
-        bytes: Vec::new(alloc),
-    };
+    let mut writer = NotFlushed(Vec::new(alloc));
     send_requests(&rt, &mut writer, &line);
-    assert!(rt; writer.bytes.as_slice() == b"\n".as_slice());
+    assert!(rt; writer.0.as_slice() == b"\n".as_slice());
     assert!(rt; line.end(&rt) == Some(LineEnd::Output(ErrorKind::Other)));
     Ok(())
 }

@@ -2,49 +2,64 @@
 use reg_adapter::MessageError;
 use reg_compaction::{FilterError, compact};
 use reg_inspection::inspect;
-use std::alloc::{AllocError, Global};
-use std::io::ErrorKind;
-use test_tools::{FailingReader, FailingWriter};
+use std::alloc::Global;
+use std::io::{self, ErrorKind, Write};
+use test_tools::{Fault, Made, PiecedBytes, Taking};
 
 /// A log of one line.
 const LOG: &[u8] = b"0\tx\ty\n";
 
-/// A writer whose first writes and flushes fail.
-fn failing(writes: u64, flushes: u64) -> FailingWriter {
-    FailingWriter {
-        kind: ErrorKind::Other,
-        writes,
-        flushes,
-        is_flushed: false,
+/// An error at each call.
+const EACH_CALL: Fault = Fault {
+    left: 0,
+    kind: ErrorKind::Other,
+    times: u64::MAX,
+};
+
+/// Takes all bytes, and fails to hand them on.
+#[derive(Drop)]
+pub(crate) struct NotFlushed(pub(crate) Vec<u8>);
+
+impl Write for NotFlushed {
+    fn write(&mut self, buf: &[u8]) -> io::Result<usize> {
+        self.0.extend_from_slice(buf)?;
+        Ok(buf.len())
+    }
+
+    fn flush(&mut self) -> io::Result<()> {
+        Err(io::Error::from(ErrorKind::Other))
     }
 }
 
 #[test]
-fn a_lost_reader_or_writer_ends_a_filter(rt: HostRuntime) {
+fn a_lost_reader_ends_a_filter(rt: HostRuntime) {
     let alloc = rt.alloc();
     let mut written = Vec::new(alloc);
-    let mut reader = FailingReader::new("", 0, ErrorKind::Other, u64::MAX);
+    let mut reader = PiecedBytes::new(b"", 1, EACH_CALL);
     let lost = compact(alloc, &mut reader, &mut written);
     assert!(rt; lost == Err(FilterError::ReadFault) && written.is_empty());
-    // A write fails; and all bytes are taken, but not handed on.
-    for (writes, flushes) in [(u64::MAX, 0), (0, u64::MAX)] {
-        let mut log = LOG;
-        let lost = compact(alloc, &mut log, &mut failing(writes, flushes));
-        assert!(rt; lost == Err(FilterError::WriteFault));
-    }
-    let mut log = LOG;
-    let lost = inspect(alloc, &mut log, &mut failing(0, u64::MAX));
+}
+
+#[test]
+fn a_lost_writer_ends_a_filter(rt: HostRuntime) {
+    let alloc = rt.alloc();
+    let (mut first, mut second, mut third) = (LOG, LOG, LOG);
+    let lost = compact(alloc, &mut first, &mut Taking::new(alloc, 1, EACH_CALL));
+    assert!(rt; lost == Err(FilterError::WriteFault));
+    let lost = compact(alloc, &mut second, &mut NotFlushed(Vec::new(alloc)));
+    assert!(rt; lost == Err(FilterError::WriteFault));
+    let lost = inspect(alloc, &mut third, &mut NotFlushed(Vec::new(alloc)));
     assert!(rt; lost == Err(FilterError::WriteFault));
 }
 
 /// Whether a filter ends with that status and text.
-fn ends_with(alloc: Global, error: FilterError, wanted: &str) -> Result<bool, AllocError> {
+fn ends_with(alloc: Global, error: FilterError, wanted: &str) -> Made<bool> {
     let told = format!(in alloc; "{}: {error}", error.status())?;
     Ok(told.as_str() == wanted)
 }
 
 #[test]
-fn errors_are_told(rt: HostRuntime) -> Result<(), AllocError> {
+fn errors_are_told(rt: HostRuntime) -> Made<()> {
     for (error, wanted) in [
         (FilterError::ReadFault, "1: ReadFault"),
         (FilterError::WriteFault, "1: WriteFault"),

@@ -1,7 +1,8 @@
 // Readers and writers that fail: what is answered, and what is counted.
-use reg_fold::reg_records::{Device, LINE_READS, LineError, LogError, LogFault, read_log};
+use reg_records::{Device, LINE_READS, LineError, LogError, LogFault, read_log};
 use std::alloc::Global;
 use std::io::{self, BufRead, ErrorKind, Read, Write};
+use test_tools::{Fault, PiecedBytes};
 
 static KINDS: [ErrorKind; 12] = [
     ErrorKind::Interrupted,
@@ -70,47 +71,14 @@ fn errors_are_handed_on_and_counted(rt: HostRuntime) {
     }
 }
 
-// Gives some bytes, then fails that many times, and then gives the other bytes.
-#[derive(Drop)]
-struct Faltering<'a> {
-    bytes: &'a [u8],
-    rest: &'a [u8],
-    kind: ErrorKind,
-    failures: u64,
-}
-
-impl Read for Faltering<'_> {
-    fn read(&mut self, buf: &mut [u8]) -> io::Result<usize> {
-        self.bytes.read(buf)
-    }
-}
-
-impl BufRead for Faltering<'_> {
-    fn fill_buf(&mut self) -> io::Result<&[u8]> {
-        if self.bytes.is_empty() && self.failures > 0 {
-            self.failures -= 1;
-            return Err(io::Error::from(self.kind));
-        }
-        if self.bytes.is_empty() {
-            self.bytes = self.rest;
-            self.rest = &[];
-        }
-        Ok(self.bytes)
-    }
-
-    fn consume(&mut self, amount: usize) {
-        self.bytes = &self.bytes[amount.min(self.bytes.len())..];
-    }
-}
-
 // A line in the middle of which that kind of error comes so often.
-fn broken_line(kind: ErrorKind, failures: u64) -> Device<Faltering<'static>> {
-    Device::new(Faltering {
-        bytes: b"7\tk\tnull\n8\tk",
-        rest: b"\tnull\n",
+fn broken_line(kind: ErrorKind, times: u64) -> Device<PiecedBytes<'static>> {
+    let fault = Fault {
+        left: 1,
         kind,
-        failures,
-    })
+        times,
+    };
+    Device::new(PiecedBytes::new(b"7\tk\tnull\n8\tk\tnull\n", 12, fault))
 }
 
 /// How a reader's log ends.

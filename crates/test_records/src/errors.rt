@@ -1,11 +1,12 @@
 // The texts of errors, and the laws.
 use reg_floored::{FloorError, MergeError};
-use reg_fold::reg_records::{
+use reg_records::{
     LineError, LogError, LogFault, ReadLineError, WriteLineError, floors_are_of_the_grammar,
     lines_are_of_the_grammar, record_limits_are_as_written, written_keys_are_apart,
 };
-use reg_fold::reg_values::{written_values_have_lines, written_values_read_back};
-use std::alloc::{AllocError, Global};
+use reg_values::{written_values_have_lines, written_values_read_back};
+use std::alloc::Global;
+use test_tools::Made;
 
 static FAULTS: [(LogFault, &str); 7] = [
     (LogFault::Line(LineError::Truncated), "Truncated"),
@@ -18,7 +19,7 @@ static FAULTS: [(LogFault, &str); 7] = [
 ];
 
 /// Whether that is the name of a fault, its text, and behind the line's number that of a log with it.
-fn is_told(alloc: Global, fault: LogFault, name: &str) -> Result<bool, AllocError> {
+fn is_told(alloc: Global, fault: LogFault, name: &str) -> Made<bool> {
     let error = LogError::Fault { line: 7, fault };
     let told = format!(in alloc; "{fault} {error}")?;
     let wanted = format!(in alloc; "{name} line 7: {name}")?;
@@ -32,7 +33,7 @@ fn faults_have_their_texts(rt: HostRuntime) {
     }
 }
 
-fn other_errors(alloc: Global) -> Result<String, AllocError> {
+fn other_errors(alloc: Global) -> Made<String> {
     format!(in alloc;
         "{}, {}, {}, {}, {}, {}, {}, {}",
         ReadLineError::Line(LineError::BadTabs),
@@ -46,7 +47,7 @@ fn other_errors(alloc: Global) -> Result<String, AllocError> {
     )
 }
 
-fn are_told(alloc: Global) -> Result<bool, AllocError> {
+fn are_told(alloc: Global) -> Made<bool> {
     let told = other_errors(alloc)?;
     Ok(
         told.as_str()

@@ -1,5 +1,6 @@
-//! Tests of records beside plain programs: sets of records and registries over lines that are drawn, large sets, devices that fail,
-//! and the texts of errors. Worked rows lie in `record_cases`.
+//! Tests of records beside plain programs: sets of records and registries over lines that are drawn, large sets, what is fetched of
+//! live versions, devices that fail, the texts of errors, and texts and lists that contracts see as plain ones. Worked rows lie in
+//! `record_cases` and `rule_cases`.
 #![tactic(auto)]
 
 #[cfg(test)]
@@ -8,6 +9,10 @@ mod devices;
 mod errors;
 #[cfg(test)]
 mod lines;
+#[cfg(test)]
+mod lists;
+#[cfg(test)]
+mod looking;
 #[cfg(test)]
 mod registry;
 #[cfg(test)]

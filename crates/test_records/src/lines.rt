@@ -1,6 +1,7 @@
 // Logs that are written line by line, and their records.
-use reg_fold::reg_records::{Device, LogError, Record, read_log};
-use std::alloc::{AllocError, Global};
+use reg_records::{Device, LogError, Record, read_log};
+use std::alloc::Global;
+use test_tools::Made;
 
 /// A record, and the text of its key.
 #[derive(Clone, Copy)]
@@ -33,13 +34,7 @@ impl Log {
     }
 
     /// Adds a line.
-    pub(crate) fn push(
-        &mut self,
-        alloc: Global,
-        offset: u64,
-        key: &str,
-        value: &str,
-    ) -> Result<(), AllocError> {
+    pub(crate) fn push(&mut self, alloc: Global, offset: u64, key: &str, value: &str) -> Made<()> {
         writeln!(self.text, "{offset}\t{key}\t{value}")?;
         self.keys.push(String::from_str(alloc, key)?)?;
         Ok(())
@@ -52,11 +47,7 @@ impl Log {
     }
 
     /// The records with the texts of their keys.
-    pub(crate) fn lines<'a>(
-        &'a self,
-        alloc: Global,
-        records: &'a [Record],
-    ) -> Result<Vec<Line<'a>>, AllocError> {
+    pub(crate) fn lines<'a>(&'a self, alloc: Global, records: &'a [Record]) -> Made<Vec<Line<'a>>> {
         let mut lines = Vec::new(alloc);
         for (key, record) in self.keys.iter().zip(records) {
             lines.push(Line {

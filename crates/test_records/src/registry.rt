@@ -4,11 +4,11 @@ mod plain;
 
 use drawn::drawn;
 use plain::{NUMBERS, PlainRegistry, SUBJECTS};
-use reg_fold::reg_records::{LogError, Record};
-use reg_fold::reg_set::RecordSet;
 use reg_fold::{Entry, Registry};
-use std::alloc::{AllocError, Global};
-use test_tools::Draws;
+use reg_records::{LogError, Record};
+use reg_set::RecordSet;
+use std::alloc::Global;
+use test_tools::{Draws, Made};
 
 /// How a registry takes records: added one by one, in batches of a record and the tombstones after it, in such batches beside other
 /// registries, or in two goes of which the later records are the first.
@@ -20,13 +20,6 @@ enum Way {
     Halved,
 }
 
-fn grow(registry: &mut Registry, records: &[Record]) -> Result<(), AllocError> {
-    for record in records {
-        registry.apply(record)?;
-    }
-    Ok(())
-}
-
 /// Whether no tombstone stands at the place.
 fn ends_batch(records: &[Record], place: usize) -> bool {
     match records.get(place) {
@@ -35,28 +28,17 @@ fn ends_batch(records: &[Record], place: usize) -> bool {
     }
 }
 
-fn add_batch(
-    registry: &mut Registry,
-    batch: &[Record],
-    other: Option<&Registry>,
-) -> Result<(), AllocError> {
-    match batch {
-        [record] => registry.apply_beside(record, other),
-        _ => registry.apply_all_beside(batch, other),
-    }
-}
-
 /// Adds batches beside one of the others each in turn, and beside none.
-fn fill_in_batches(
-    registry: &mut Registry,
-    records: &[Record],
-    others: &[Registry],
-) -> Result<(), AllocError> {
+fn fill_in_batches(registry: &mut Registry, records: &[Record], others: &[Registry]) -> Made<()> {
     let mut first = 0;
     for place in 1..=records.len() {
         if ends_batch(records, place) {
             let batch = records.get(first..place).unwrap_or(&[]);
-            add_batch(registry, batch, others.get(first % 4))?;
+            let other = others.get(first % 4);
+            match batch {
+                [record] => registry.apply_beside(record, other)?,
+                _ => registry.apply_all_beside(batch, other)?,
+            }
             first = place;
         }
     }
@@ -64,7 +46,7 @@ fn fill_in_batches(
 }
 
 /// Registries over all records, over the first half and over the second half.
-fn others_of(alloc: Global, records: &[Record]) -> Result<Vec<Registry>, AllocError> {
+fn others_of(alloc: Global, records: &[Record]) -> Made<Vec<Registry>> {
     let (first, second) = records.split_at(records.len() / 2);
     let mut others = Vec::new(alloc);
     for part in [records, first, second] {
@@ -73,36 +55,25 @@ fn others_of(alloc: Global, records: &[Record]) -> Result<Vec<Registry>, AllocEr
     Ok(others)
 }
 
-fn fill_beside(
-    alloc: Global,
-    registry: &mut Registry,
-    records: &[Record],
-) -> Result<(), AllocError> {
-    let others = others_of(alloc, records)?;
-    fill_in_batches(registry, records, &others)
-}
-
-fn fill_in_halves(registry: &mut Registry, records: &[Record]) -> Result<(), AllocError> {
-    let third = records.len() / 3;
-    registry.apply_all(records.get(third..).unwrap_or(&[]))?;
-    registry.apply_all(records.get(..third).unwrap_or(&[]))
-}
-
-fn add(
-    alloc: Global,
-    registry: &mut Registry,
-    records: &[Record],
-    way: Way,
-) -> Result<(), AllocError> {
+fn add(alloc: Global, registry: &mut Registry, records: &[Record], way: Way) -> Made<()> {
     match way {
-        Way::Grown => grow(registry, records),
+        Way::Grown => {
+            for record in records {
+                registry.apply(record)?;
+            }
+            Ok(())
+        }
         Way::Batched => fill_in_batches(registry, records, &[]),
-        Way::Beside => fill_beside(alloc, registry, records),
-        Way::Halved => fill_in_halves(registry, records),
+        Way::Beside => fill_in_batches(registry, records, &others_of(alloc, records)?),
+        Way::Halved => {
+            let third = records.len() / 3;
+            registry.apply_all(records.get(third..).unwrap_or(&[]))?;
+            registry.apply_all(records.get(..third).unwrap_or(&[]))
+        }
     }
 }
 
-fn read(alloc: Global, records: &[Record]) -> Result<Registry, AllocError> {
+fn read(alloc: Global, records: &[Record]) -> Made<Registry> {
     let set = RecordSet::of(alloc, records)?;
     Registry::of_set(alloc, &set)
 }
@@ -134,7 +105,7 @@ fn have_ids(registry: &Registry, plain: &PlainRegistry) -> bool {
         && registry.mark() == plain.mark
 }
 
-fn have_subjects(registry: &Registry, plain: &PlainRegistry) -> Result<bool, AllocError> {
+fn have_subjects(registry: &Registry, plain: &PlainRegistry) -> Made<bool> {
     for subject in &SUBJECTS {
         if registry.greatest_version(subject) != plain.greatest_version(subject)
             || !are_entries(&registry.live(subject)?, plain, Some(subject))
@@ -145,7 +116,7 @@ fn have_subjects(registry: &Registry, plain: &PlainRegistry) -> Result<bool, All
     Ok(true)
 }
 
-fn have_schemas(registry: &Registry, plain: &PlainRegistry) -> Result<bool, AllocError> {
+fn have_schemas(registry: &Registry, plain: &PlainRegistry) -> Made<bool> {
     for normal in ["\"int\"", "\"long\"", "\"string\""] {
         if registry.id_of(normal)? != plain.id_of(normal) {
             return Ok(false);
@@ -155,7 +126,7 @@ fn have_schemas(registry: &Registry, plain: &PlainRegistry) -> Result<bool, Allo
 }
 
 /// Whether a registry gives the same answers as a plain one to all that is asked.
-fn is_like(registry: &Registry, plain: &PlainRegistry) -> Result<bool, AllocError> {
+fn is_like(registry: &Registry, plain: &PlainRegistry) -> Made<bool> {
     Ok(
         are_entries(&registry.entries()?, plain, None)
             && have_ids(registry, plain)
@@ -165,19 +136,14 @@ fn is_like(registry: &Registry, plain: &PlainRegistry) -> Result<bool, AllocErro
 }
 
 /// Whether a registry that takes the records so is like the plain one.
-fn way_alike(
-    alloc: Global,
-    records: &[Record],
-    way: Way,
-    plain: &PlainRegistry,
-) -> Result<bool, AllocError> {
+fn way_alike(alloc: Global, records: &[Record], way: Way, plain: &PlainRegistry) -> Made<bool> {
     let mut registry = Registry::empty(alloc);
     add(alloc, &mut registry, records, way)?;
     is_like(&registry, plain)
 }
 
 /// Whether registries that take the first records one by one are like plain ones.
-fn fronts_alike(alloc: Global, records: &[Record]) -> Result<bool, AllocError> {
+fn fronts_alike(alloc: Global, records: &[Record]) -> Made<bool> {
     for count in 0..records.len() {
         let front = &records[..count];
         let plain = PlainRegistry::of(alloc, front)?;
@@ -188,7 +154,7 @@ fn fronts_alike(alloc: Global, records: &[Record]) -> Result<bool, AllocError> {
     Ok(true)
 }
 
-fn are_alike(alloc: Global, records: &[Record]) -> Result<bool, AllocError> {
+fn are_alike(alloc: Global, records: &[Record]) -> Made<bool> {
     let plain = PlainRegistry::of(alloc, records)?;
     for way in [Way::Batched, Way::Beside, Way::Halved] {
         if !way_alike(alloc, records, way, &plain)? {

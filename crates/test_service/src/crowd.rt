@@ -1,15 +1,15 @@
 // Eight clients at three nodes, each on one connection.
-use crate::asking::{ask, connect, listen, use_up};
-use crate::serving::serve_at;
+use crate::asking::{ask, connect, request_of, while_served};
+use crate::trials::{Machine, Trial, tried};
 use reg_service::NoGate;
 use std::alloc::{AllocError, Global};
 use std::io::{self, BufRead, BufReader, Read, Write};
-use std::net::{Net, SocketAddr, TcpListener, TcpStream};
-use std::random::RandomSource;
-use std::sync::Wait;
+use std::net::{SocketAddr, TcpStream};
 use std::sync::atomic::{AtomicU64, Ordering};
-use std::thread::{self, Threads};
-use std::time::{Clock, Duration};
+use std::test::Fail;
+use std::thread;
+use std::time::Duration;
+use test_tools::{Draws, Tally, rows_of};
 
 const CLIENTS: u64 = 8;
 
@@ -24,26 +24,18 @@ const ROUNDS: u64 = 16;
 
 /// What clients register, as they send it and as it is told.
 static SCHEMAS: [&str; 5] = [
-    "{\"schema\":\"\\\"int\\\"\"}",
-    "{\"schema\":\"\\\"long\\\"\"}",
-    "{\"schema\":\"\\\"string\\\"\"}",
-    "{\"schema\":\"\\\"bytes\\\"\"}",
-    "{\"schema\":\"\\\"boolean\\\"\"}",
+    r#"{"schema":"\"int\""}"#,
+    r#"{"schema":"\"long\""}"#,
+    r#"{"schema":"\"string\""}"#,
+    r#"{"schema":"\"bytes\""}"#,
+    r#"{"schema":"\"boolean\""}"#,
 ];
 
 /// Lets each subject take any schema after any other.
-static NO_LEVEL: &str =
-    "PUT /config HTTP/1.1\r\nHost: a\r\nConnection: close\r\nContent-Length: 24\r\n\r\n{\"compatibility\":\"NONE\"}";
+const NO_LEVEL: &str = r#"PUT /config {"compatibility":"NONE"}"#;
 
 /// What is told of the versions of a subject that has none.
-static NOT_FOUND: &str = "{\"error_code\":40401,\"message\":\"Subject not found\"}";
-
-/// The next of some numbers that look random.
-fn next_random(state: u64) -> u64 {
-    state
-        .wrapping_mul(6_364_136_223_846_793_005)
-        .wrapping_add(1_442_695_040_888_963_407)
-}
+const NOT_FOUND: &str = r#"{"error_code":40401,"message":"Subject not found"}"#;
 
 /// Reads a response's head, and says how long its body is.
 fn body_length(alloc: Global, reader: &mut BufReader<&TcpStream>) -> io::Result<usize> {
@@ -64,19 +56,13 @@ fn body_length(alloc: Global, reader: &mut BufReader<&TcpStream>) -> io::Result<
 /// Sends a request on a connection that stays open, and gives the response's body.
 fn say(alloc: Global, stream: &TcpStream, request: &str) -> io::Result<String> {
     let mut out = stream;
-    out.write_all(request.as_bytes())?;
+    out.write_all(request_of(alloc, request, "")?.as_bytes())?;
     let mut reader = BufReader::new(alloc, stream)?;
     let length = body_length(alloc, &mut reader)?;
     let mut bytes = Vec::new(alloc);
     bytes.resize(length, 0u8)?;
     reader.read_exact(&mut bytes)?;
     Ok(String::from_utf8(bytes).map_err(|_| AllocError)?)
-}
-
-/// The body of the response to a query.
-fn query(alloc: Global, stream: &TcpStream, path: &str) -> io::Result<String> {
-    let request = format!(in alloc; "GET {path} HTTP/1.1\r\nHost: a\r\n\r\n")?;
-    say(alloc, stream, &request)
 }
 
 /// The number that stands between two texts, or 0.
@@ -92,33 +78,27 @@ fn number_in(text: &str, before: &str, after: &str) -> u64 {
 
 /// Registers a schema, and says its id.
 fn register(alloc: Global, stream: &TcpStream, subject: u64, schema: &str) -> io::Result<u64> {
-    let len = schema.len();
-    let request = format!(in alloc;
-        "POST /subjects/s{subject}/versions HTTP/1.1\r\nHost: a\r\nContent-Length: {len}\r\n\r\n{schema}"
-    )?;
-    let answer = say(alloc, stream, &request)?;
-    Ok(number_in(&answer, "{\"id\":", "}"))
+    let request = format!(in alloc; "POST /subjects/s{subject}/versions {schema}")?;
+    Ok(number_in(&say(alloc, stream, &request)?, "{\"id\":", "}"))
 }
 
 /// Whether the schema of the id is that.
 fn has_schema(alloc: Global, stream: &TcpStream, id: u64, schema: &str) -> io::Result<bool> {
-    let path = format!(in alloc; "/schemas/ids/{id}")?;
-    Ok(query(alloc, stream, &path)?.as_str() == schema)
+    let request = format!(in alloc; "GET /schemas/ids/{id}")?;
+    Ok(say(alloc, stream, &request)?.as_str() == schema)
 }
 
 /// Deletes the last version of a subject, if it has one.
 fn delete(alloc: Global, stream: &TcpStream, subject: u64) -> io::Result<()> {
-    let request = format!(in alloc;
-        "DELETE /subjects/s{subject}/versions/latest HTTP/1.1\r\nHost: a\r\n\r\n"
-    )?;
+    let request = format!(in alloc; "DELETE /subjects/s{subject}/versions/latest")?;
     say(alloc, stream, &request)?;
     Ok(())
 }
 
 /// What is told of the versions of a subject.
 fn versions(alloc: Global, stream: &TcpStream, subject: u64) -> io::Result<String> {
-    let path = format!(in alloc; "/subjects/s{subject}/versions")?;
-    query(alloc, stream, &path)
+    let request = format!(in alloc; "GET /subjects/s{subject}/versions")?;
+    say(alloc, stream, &request)
 }
 
 /// Registers a schema in a subject that is used by one client alone, and deletes it; whether just that
@@ -138,54 +118,58 @@ fn is_own(
 
 /// Registers a schema in one of four subjects that all clients use, and at times deletes a version there;
 /// whether the schema is found by the id.
-fn is_shared(alloc: Global, stream: &TcpStream, random: u64, schema: &str) -> io::Result<bool> {
-    let subject = (random >> 40) % 4;
+fn is_shared(
+    alloc: Global,
+    stream: &TcpStream,
+    draws: &mut Draws,
+    schema: &str,
+) -> io::Result<bool> {
+    let subject = draws.below(4);
     let id = register(alloc, stream, subject, schema)?;
     let is_there = has_schema(alloc, stream, id, schema)?;
-    if random >> 62 == 0 {
+    if draws.below(4) == 0 {
         delete(alloc, stream, subject)?;
     }
     Ok(is_there)
 }
 
 /// What one client does; how often it didn't read what it had been told.
-fn visit<R: Net<Stream = TcpStream>>(
-    alloc: Global,
-    rt: &R,
-    address: SocketAddr,
-    client: u64,
-) -> io::Result<u64> {
-    let stream = connect(rt, address)?;
-    let own = client.saturating_add(10);
-    let mut random = client;
+fn visit(alloc: Global, stream: &TcpStream, client: u64) -> io::Result<u64> {
+    let mut draws = Draws::new(client);
     let mut wrong = 0u64;
     for version in 1..=ROUNDS {
-        random = next_random(random);
-        let schema = SCHEMAS[((random >> 33) % 5) as usize];
-        if !is_shared(alloc, &stream, random, schema)? {
+        let place = draws.place(SCHEMAS.len());
+        let schema = SCHEMAS.get(place).copied().unwrap_or("");
+        if !is_shared(alloc, stream, &mut draws, schema)? {
             wrong = wrong.saturating_add(1);
         }
-        if !is_own(alloc, &stream, own, version, schema)? {
+        if !is_own(alloc, stream, client.saturating_add(10), version, schema)? {
             wrong = wrong.saturating_add(1);
         }
     }
     Ok(wrong)
 }
 
-/// Lets all clients do what they do, at the same time; how often one didn't read what it had been
-/// told, or failed.
-fn visit_all<R: Threads + Wait + Net<Listener = TcpListener, Stream = TcpStream> + Sync>(
+fn connect_and_visit<R: Machine>(
     alloc: Global,
     rt: &R,
-    addresses: &[SocketAddr],
-) -> u64 {
+    address: SocketAddr,
+    client: u64,
+) -> io::Result<u64> {
+    let stream = connect(rt, address)?;
+    visit(alloc, &stream, client)
+}
+
+/// Lets all clients do what they do, at the same time; how often one didn't read what it had been
+/// told, or failed.
+fn visit_all<R: Machine>(alloc: Global, rt: &R, addresses: &[SocketAddr]) -> u64 {
     let wrong = AtomicU64::new(0);
     let count = &wrong;
     thread::scope(thread::scope_env(), rt, |scope| {
         for (client, address) in (0..CLIENTS).zip(addresses.iter().cycle()) {
             let address = *address;
             let started = scope.spawn(move || {
-                let missed = visit(alloc, rt, address, client).unwrap_or(1);
+                let missed = connect_and_visit(alloc, rt, address, client).unwrap_or(1);
                 count.fetch_add(missed, Ordering::SeqCst);
             });
             if started.is_err() {
@@ -197,30 +181,30 @@ fn visit_all<R: Threads + Wait + Net<Listener = TcpListener, Stream = TcpStream>
 }
 
 /// What a node is asked of subjects and of ids.
-static QUERIES: [&str; 12] = [
-    "/subjects?deleted=true",
-    "/subjects/s0/versions",
-    "/subjects/s0/versions?deleted=true",
-    "/subjects/s1/versions",
-    "/subjects/s1/versions?deleted=true",
-    "/subjects/s2/versions",
-    "/subjects/s2/versions?deleted=true",
-    "/subjects/s3/versions",
-    "/subjects/s3/versions?deleted=true",
-    "/subjects/s17/versions?deleted=true",
-    "/schemas/ids/1/versions?deleted=true",
-    "/schemas/ids/5",
-];
+static QUERIES: &str = "
+GET /subjects?deleted=true
+GET /subjects/s0/versions
+GET /subjects/s0/versions?deleted=true
+GET /subjects/s1/versions
+GET /subjects/s1/versions?deleted=true
+GET /subjects/s2/versions
+GET /subjects/s2/versions?deleted=true
+GET /subjects/s3/versions
+GET /subjects/s3/versions?deleted=true
+GET /subjects/s17/versions?deleted=true
+GET /schemas/ids/1/versions?deleted=true
+GET /schemas/ids/5
+";
 
 /// What a node says to the first query in the end.
-static ALL_SUBJECTS: &str =
-    "[\"s0\",\"s1\",\"s10\",\"s11\",\"s12\",\"s13\",\"s14\",\"s15\",\"s16\",\"s17\",\"s2\",\"s3\"]";
+const ALL_SUBJECTS: &str =
+    r#"["s0","s1","s10","s11","s12","s13","s14","s15","s16","s17","s2","s3"]"#;
 
 /// What a node says to all queries, one after the other.
 fn state_of(alloc: Global, stream: &TcpStream) -> io::Result<String> {
     let mut state = String::new(alloc);
-    for path in &QUERIES {
-        state.push_str(&query(alloc, stream, path)?)?;
+    for request in &rows_of(alloc, QUERIES)? {
+        state.push_str(&say(alloc, stream, request)?)?;
     }
     Ok(state)
 }
@@ -243,17 +227,9 @@ fn is_agreed(alloc: Global, streams: &[TcpStream]) -> io::Result<bool> {
 const TURNS: u64 = 100;
 
 /// Whether all nodes come to say the same.
-fn will_agree<R: Net<Stream = TcpStream> + Clock>(
-    alloc: Global,
-    rt: &R,
-    addresses: &[SocketAddr],
-) -> io::Result<bool> {
-    let mut streams = Vec::new(alloc);
-    for address in addresses {
-        streams.push(connect(rt, *address)?)?;
-    }
+fn will_agree<R: Machine>(alloc: Global, rt: &R, streams: &[TcpStream]) -> io::Result<bool> {
     for _turn in 0..TURNS {
-        if is_agreed(alloc, &streams)? {
+        if is_agreed(alloc, streams)? {
             return Ok(true);
         }
         thread::sleep(rt, Duration::from_millis(100));
@@ -263,64 +239,34 @@ fn will_agree<R: Net<Stream = TcpStream> + Clock>(
 
 /// Sets the level at the first node and lets the clients do what they do. How often one didn't read
 /// what it had been told, and whether the nodes then come to say the same.
-fn use_nodes<
-    R: Threads
-        + Wait
-        + Clock
-        + Net<Listener = TcpListener, Stream = TcpStream>
-        + RandomSource
-        + Sync,
->(alloc: Global, rt: &R, addresses: &[SocketAddr; 3]) -> io::Result<(u64, bool)> {
-    ask(alloc, rt, addresses[0], NO_LEVEL)?;
-    let wrong = visit_all(alloc, rt, addresses);
-    Ok((wrong, will_agree(alloc, rt, addresses)?))
-}
-
-/// What `use_nodes` gives while three nodes serve.
-fn serve<
-    R: Threads
-        + Wait
-        + Clock
-        + Net<Listener = TcpListener, Stream = TcpStream>
-        + RandomSource
-        + Sync,
->(
+fn use_nodes<R: Machine>(
     alloc: Global,
     rt: &R,
-    listeners: Vec<TcpListener>,
-    addresses: &[SocketAddr; 3],
+    addresses: &[SocketAddr],
 ) -> io::Result<(u64, bool)> {
-    thread::scope(
-        thread::scope_env(),
-        rt,
-        |scope| -> io::Result<(u64, bool)> {
-            let _server = scope.spawn(move || serve_at(
-                alloc,
-                rt,
-                listeners,
-                WORKERS,
-                CONNECTIONS,
-                &NoGate,
-            ));
-            let told = use_nodes(alloc, rt, addresses);
-            use_up(rt, addresses, WORKERS * CONNECTIONS as u32);
-            told
-        },
-    )
+    let first = *addresses.first().ok_or(AllocError)?;
+    ask(alloc, rt, first, NO_LEVEL)?;
+    let wrong = visit_all(alloc, rt, addresses);
+    let mut streams = Vec::new(alloc);
+    for address in addresses {
+        streams.push(connect(rt, *address)?)?;
+    }
+    Ok((wrong, will_agree(alloc, rt, &streams)?))
+}
+
+/// Uses three nodes while they serve.
+pub(crate) fn visit_nodes<R: Machine>(alloc: Global, rt: &R, tally: &mut Tally) -> io::Result<()> {
+    let size = (3, WORKERS, CONNECTIONS);
+    let (wrong, is_agreed) = while_served(alloc, rt, size, &NoGate, |addresses| {
+        use_nodes(alloc, rt, addresses)
+    })?;
+    let came = format!(in alloc; "{wrong} wrong, agreed: {is_agreed}")?;
+    Ok(tally.count("clients", b"0 wrong, agreed: true", came.as_bytes())?)
 }
 
 #[test]
-fn clients_read_what_they_wrote(rt: HostRuntime) -> io::Result<()> {
-    let (first, second, third) = (listen(&rt)?, listen(&rt)?, listen(&rt)?);
-    let addresses = [
-        first.local_addr()?,
-        second.local_addr()?,
-        third.local_addr()?,
-    ];
-    let mut listeners = Vec::new(rt.alloc());
-    for listener in [first, second, third] {
-        listeners.push(listener)?;
-    }
-    assert_eq!(rt; serve(rt.alloc(), &rt, listeners, &addresses)?, (0, true));
+fn clients_read_what_they_wrote(rt: HostRuntime) -> Result<(), Fail> {
+    let tally = tried(rt.alloc(), &rt, Trial::Crowd)?;
+    assert_eq!(rt; (tally.cases(), tally.others()), (1, ""));
     Ok(())
 }

@@ -1,5 +1,5 @@
-//! Tests of connections by scripts of their own, of nodes over sockets, of lines that come in pieces, of nodes that follow them, of
-//! the nodes of the service, and of what is counted and shown of them.
+//! Tests of nodes over sockets: of what their clients meet, of nodes that follow lines, of the nodes of the service, and of what is
+//! counted and shown of them.
 #![tactic(auto)]
 
 #[cfg(test)]
@@ -19,10 +19,10 @@ mod kept;
 #[cfg(test)]
 mod rows;
 #[cfg(test)]
+mod scenes;
+#[cfg(test)]
 mod serve;
 #[cfg(test)]
-mod serving;
-#[cfg(test)]
-mod showing;
-#[cfg(test)]
 mod slow;
+#[cfg(test)]
+mod trials;

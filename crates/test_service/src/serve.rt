@@ -1,9 +1,9 @@
-// Connections by scripts of their own, and nodes over sockets.
+// Requests at desks in turn, and nodes over sockets.
 mod clients;
 mod fakes;
-mod kinds;
-mod looks;
 mod nodes;
 mod pieces;
-mod places;
 mod turns;
+
+pub(crate) use clients::play_clients;
+pub(crate) use pieces::send_pieces;

@@ -1,17 +1,16 @@
 // A request whose check takes long, and commands at the same node meanwhile.
-use crate::asking::{ask, body, listen, send, use_up};
-use crate::serving::serve_at;
+use crate::asking::{ask, body, send, while_served};
+use crate::trials::{Machine, Trial, tried};
 use avro_resolve::resolve;
 use avro_schema::Schema;
 use reg_service::NoGate;
 use std::alloc::{AllocError, Global};
-use std::io;
-use std::net::{Net, SocketAddr, TcpListener, TcpStream};
-use std::random::RandomSource;
-use std::sync::Wait;
+use std::io::{self, ErrorKind};
+use std::net::SocketAddr;
 use std::test::Fail;
-use std::thread::{self, Threads};
+use std::thread;
 use std::time::{Clock, Duration, Instant};
+use test_tools::{Made, Tally};
 
 /// How many fields readers have, and how many records writers, until a check takes long enough to tell how
 /// long it takes for more. Each field is compared with each record.
@@ -46,7 +45,7 @@ pub(crate) const LEFT: u64 = 100;
 const TIMINGS: u32 = 3;
 
 /// A record whose fields all read a field `a`.
-pub(crate) fn reader_text(alloc: Global, size: u32) -> Result<String, AllocError> {
+fn reader_text(alloc: Global, size: u32) -> Made<String> {
     let mut text = String::from_str(alloc, r#"{"type":"record","name":"R","fields":["#)?;
     text.push_str(r#"{"name":"f","type":{"type":"fixed","name":"T","size":1},"aliases":["a"]}"#)?;
     for place in 0..size {
@@ -57,7 +56,7 @@ pub(crate) fn reader_text(alloc: Global, size: u32) -> Result<String, AllocError
 }
 
 /// A union of records with a field `a`.
-pub(crate) fn writer_text(alloc: Global, size: u32) -> Result<String, AllocError> {
+pub(crate) fn writer_text(alloc: Global, size: u32) -> Made<String> {
     let mut text = String::from_str(alloc, r#"[{"type":"record","name":"w.R","fields":["#)?;
     text.push_str(r#"{"name":"a","type":{"type":"fixed","name":"T.T","size":1}}]}"#)?;
     for place in 0..size {
@@ -71,14 +70,14 @@ pub(crate) fn writer_text(alloc: Global, size: u32) -> Result<String, AllocError
 }
 
 /// How long a check of that size takes.
-fn time_of<R: Clock>(alloc: Global, rt: &R, size: u32) -> Result<Duration, Fail> {
+fn time_of<R: Clock>(alloc: Global, rt: &R, size: u32) -> io::Result<Duration> {
     let reading = reader_text(alloc, size)?;
     let writing = writer_text(alloc, size)?;
     let (Some(reader), Some(writer)) = (
         Schema::read_if_any(alloc, reading.as_str())?,
         Schema::read_if_any(alloc, writing.as_str())?,
     ) else {
-        return Err(Fail::from("no schema"));
+        return Err(io::Error::from(ErrorKind::InvalidData));
     };
     let begun = Instant::now(rt)?;
     let _verdict = resolve(alloc, &reader, &writer)?;
@@ -86,7 +85,7 @@ fn time_of<R: Clock>(alloc: Global, rt: &R, size: u32) -> Result<Duration, Fail>
 }
 
 /// Whether each of a few checks of that size takes long enough to tell.
-fn is_telling<R: Clock>(alloc: Global, rt: &R, size: u32) -> Result<bool, Fail> {
+fn is_telling<R: Clock>(alloc: Global, rt: &R, size: u32) -> io::Result<bool> {
     for _timing in 0..TIMINGS {
         if time_of(alloc, rt, size)? < Duration::from_millis(TELLING) {
             return Ok(false);
@@ -96,7 +95,7 @@ fn is_telling<R: Clock>(alloc: Global, rt: &R, size: u32) -> Result<bool, Fail> 
 }
 
 /// A size whose check takes some seconds here.
-pub(crate) fn long_size<R: Clock>(alloc: Global, rt: &R) -> Result<u32, Fail> {
+pub(crate) fn long_size<R: Clock>(alloc: Global, rt: &R) -> io::Result<u32> {
     for size in &SIZES {
         if is_telling(alloc, rt, *size)? {
             return Ok(size.saturating_mul(TIMES).min(MOST));
@@ -105,40 +104,45 @@ pub(crate) fn long_size<R: Clock>(alloc: Global, rt: &R) -> Result<u32, Fail> {
     Ok(MOST)
 }
 
-/// The body that asks for a schema.
-pub(crate) fn body_of(alloc: Global, text: &str) -> Result<String, AllocError> {
-    let mut body = String::from_str(alloc, "{\"schema\":\"")?;
+pub(crate) const CHECK_LATEST: &str = "/compatibility/subjects/s/versions/latest";
+
+const VERSIONS: &str = "/subjects/s/versions";
+
+pub(crate) const SET_FULL: &str = r#"PUT /config/t {"compatibility":"FULL"}"#;
+
+/// Asks for a schema at the path.
+pub(crate) fn post(alloc: Global, path: &str, text: &str) -> Made<String> {
+    let mut request = format!(in alloc; "POST {path} {{\"schema\":\"")?;
     for letter in text.chars() {
         if letter == '"' {
-            body.push('\\')?;
+            request.push('\\')?;
         }
-        body.push(letter)?;
+        request.push(letter)?;
     }
-    body.push_str("\"}")?;
-    Ok(body)
+    request.push_str("\"}")?;
+    Ok(request)
 }
 
-pub(crate) fn post(alloc: Global, path: &str, body: &str) -> Result<String, AllocError> {
-    let len = body.len();
-    format!(in alloc;
-        "POST {path} HTTP/1.1\r\nHost: a\r\nConnection: close\r\nContent-Length: {len}\r\n\r\n{body}"
-    )
-}
-
-pub(crate) const VERSIONS: &str = "/subjects/s/versions";
-
-pub(crate) const SET_FORWARD: &str =
-    "PUT /config/s HTTP/1.1\r\nHost: a\r\nConnection: close\r\nContent-Length: 27\r\n\r\n{\"compatibility\":\"FORWARD\"}";
-
-pub(crate) const SET_FULL: &str =
-    "PUT /config/t HTTP/1.1\r\nHost: a\r\nConnection: close\r\nContent-Length: 24\r\n\r\n{\"compatibility\":\"FULL\"}";
-
-/// How many commands are answered soon.
-fn work_meanwhile<R: Clock + Net<Stream = TcpStream>>(
+/// Sets the level, and registers the reader.
+pub(crate) fn prepare<R: Machine>(
     alloc: Global,
     rt: &R,
     address: SocketAddr,
-) -> io::Result<u64> {
+    size: u32,
+) -> io::Result<()> {
+    let register = post(alloc, VERSIONS, &reader_text(alloc, size)?)?;
+    ask(
+        alloc,
+        rt,
+        address,
+        r#"PUT /config/s {"compatibility":"FORWARD"}"#,
+    )?;
+    ask(alloc, rt, address, &register)?;
+    Ok(())
+}
+
+/// How many commands are answered soon.
+fn work_meanwhile<R: Machine>(alloc: Global, rt: &R, address: SocketAddr) -> io::Result<u64> {
     let mut in_time = 0u64;
     for _command in 0..COMMANDS {
         let begun = Instant::now(rt)?;
@@ -150,20 +154,15 @@ fn work_meanwhile<R: Clock + Net<Stream = TcpStream>>(
     Ok(in_time)
 }
 
-/// Registers the reader, and then asks for the writer at the path. Whether commands are answered soon
-/// while it is checked, and the body that comes, or how it was with them.
-fn visit<R: Clock + Net<Stream = TcpStream>>(
+/// Does commands while the request is under way. The body that it is answered, and before that how it was with the commands, if they
+/// weren't answered soon.
+fn work_beside<R: Machine>(
     alloc: Global,
     rt: &R,
     address: SocketAddr,
-    path: &str,
-    size: u32,
-) -> io::Result<(bool, String)> {
-    let reader = body_of(alloc, &reader_text(alloc, size)?)?;
-    let writer = body_of(alloc, &writer_text(alloc, size)?)?;
-    ask(alloc, rt, address, SET_FORWARD)?;
-    ask(alloc, rt, address, &post(alloc, VERSIONS, &reader)?)?;
-    let slow = send(rt, address, &post(alloc, path, &writer)?)?;
+    request: &str,
+) -> io::Result<String> {
+    let slow = send(alloc, rt, address, request)?;
     slow.set_read_timeout(Some(Duration::from_secs(PATIENCE)))?;
     thread::sleep(rt, Duration::from_millis(UNDER_WAY));
     let in_time = work_meanwhile(alloc, rt, address)?;
@@ -171,64 +170,51 @@ fn visit<R: Clock + Net<Stream = TcpStream>>(
     let told = body(alloc, slow)?;
     let left = done.elapsed(rt)?;
     if in_time > COMMANDS / 2 && left > Duration::from_millis(LEFT) {
-        return Ok((true, told));
+        return Ok(told);
     }
     let left = left.as_millis();
-    Ok((
-        false,
-        format!(in alloc; "{in_time} commands in time, {left} ms before {told}")?,
-    ))
+    Ok(format!(in alloc; "{in_time} commands in time, {left} ms before {told}")?)
 }
 
-/// The workers of the node: one has the check or the registration, one the commands, and two turns of commands are there.
-const WORKERS: u32 = 4;
-
-/// How many connections of a worker end the node.
-const LIMIT: u32 = 10;
-
-/// What `visit` gives while a node serves.
-fn serve<
-    R: Threads
-        + Wait
-        + Clock
-        + Net<Listener = TcpListener, Stream = TcpStream>
-        + RandomSource
-        + Sync,
->(alloc: Global, rt: &R, path: &str, size: u32) -> io::Result<(bool, String)> {
-    let mut listeners = Vec::new(alloc);
-    let listener = listen(rt)?;
-    let address = listener.local_addr()?;
-    listeners.push(listener)?;
-    thread::scope(
-        thread::scope_env(),
-        rt,
-        |scope| -> io::Result<(bool, String)> {
-            let limit = u64::from(LIMIT);
-            let _server = scope.spawn(move || serve_at(
-                alloc, rt, listeners, WORKERS, limit, &NoGate,
-            ));
-            let told = visit(alloc, rt, address, path, size);
-            use_up(rt, &[address], WORKERS * LIMIT);
-            told
-        },
-    )
+/// Registers the reader, and then asks for the writer at the path.
+fn visit<R: Machine>(
+    alloc: Global,
+    rt: &R,
+    addresses: &[SocketAddr],
+    path: &str,
+    size: u32,
+) -> io::Result<String> {
+    let address = *addresses.first().ok_or(AllocError)?;
+    prepare(alloc, rt, address, size)?;
+    let request = post(alloc, path, &writer_text(alloc, size)?)?;
+    work_beside(alloc, rt, address, &request)
 }
 
-/// A check and a registration, and what each is answered.
+/// What is asked, at a node of four workers: one has the check or the registration, one the commands, and two turns of commands are
+/// there.
 static ROWS: [(&str, &str); 2] = [
-    (
-        "/compatibility/subjects/s/versions/latest",
-        "{\"is_compatible\":true}",
-    ),
-    (VERSIONS, "{\"id\":2}"),
+    (CHECK_LATEST, r#"{"is_compatible":true}"#),
+    (VERSIONS, r#"{"id":2}"#),
 ];
+
+pub(crate) fn work_beside_checks<R: Machine>(
+    alloc: Global,
+    rt: &R,
+    tally: &mut Tally,
+) -> io::Result<()> {
+    let size = long_size(alloc, rt)?;
+    for (path, wanted) in &ROWS {
+        let came = while_served(alloc, rt, (1, 4, 10), &NoGate, |addresses| {
+            visit(alloc, rt, addresses, path, size)
+        })?;
+        tally.count(path, wanted.as_bytes(), came.as_bytes())?;
+    }
+    Ok(())
+}
 
 #[test]
 fn a_long_check_holds_up_no_command(rt: HostRuntime) -> Result<(), Fail> {
-    let size = long_size(rt.alloc(), &rt)?;
-    for (path, wanted) in &ROWS {
-        let (is_beside, told) = serve(rt.alloc(), &rt, path, size)?;
-        assert_eq!(rt; (is_beside, told.as_str()), (true, *wanted), "{path}");
-    }
+    let tally = tried(rt.alloc(), &rt, Trial::Slow)?;
+    assert_eq!(rt; (tally.cases(), tally.others()), (2, ""));
     Ok(())
 }

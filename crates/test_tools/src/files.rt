@@ -1,6 +1,5 @@
 // The files of the folder in which a runner stands.
-use crate::tally::Tally;
-use std::alloc::{AllocError, Global};
+use crate::tally::{Made, Tally};
 use std::fs::{self, Files};
 use std::io::{self, Print};
 
@@ -26,24 +25,21 @@ fn kind_of<'n>(name: &'n str, kinds: &[&str]) -> Option<&'n str> {
     None
 }
 
-fn print_tally<R: Print>(rt: &R, name: &str, tally: &Tally) -> io::Result<()> {
-    let (cases, others) = (tally.cases(), tally.others());
-    println!(rt; "{name}: {cases} cases{others}")
-}
-
 /// Tries the files of the folder whose names end in one of the kinds, in order, and prints of each how many cases it holds, and those
-/// of them that went otherwise. A file's cases are tried by `tally_of`, from its kind and its text.
-pub fn print_cases<R, F>(rt: &R, kinds: &[&str], tally_of: F) -> io::Result<()>
+/// of them that went otherwise. A file's cases are tried by `try_file`, from its kind and its text.
+pub fn print_cases<R, F>(rt: &R, kinds: &[&str], try_file: F) -> io::Result<()>
 where
     R: Files + AllocGlobal + Print + Clone + Drop,
-    F: Fn(Global, &str, &str) -> Result<Tally, AllocError>,
-    requires { F.IsAlwaysCallable tally_of }
+    F: Fn(&mut Tally, &str, &str) -> Made<()>,
+    requires { F.IsAlwaysCallable try_file }
 {
     for name in &file_names(rt)? {
         if let Some(kind) = kind_of(name.as_str(), kinds) {
             let text = fs::read_to_string(rt, name.as_str())?;
-            let tally = tally_of(rt.alloc(), kind, text.as_str())?;
-            print_tally(rt, name.as_str(), &tally)?;
+            let mut tally = Tally::new(rt.alloc());
+            try_file(&mut tally, kind, text.as_str())?;
+            let (cases, others) = (tally.cases(), tally.others());
+            println!(rt; "{name}: {cases} cases{others}")?;
         }
     }
     Ok(())

@@ -1,21 +1,24 @@
-//! What several test crates use: numbers that look drawn, readers and writers that fail, the lines of logs, large schemas, and what
-//! the programs share that try the cases of data files.
+//! What several test crates use: numbers that look drawn, readers and writers that fail, logs in words, large schemas, and what the
+//! programs share that try the cases of data files.
 #![tactic(auto)]
 
 mod draws;
+mod faults;
 mod files;
+mod grammar;
 mod logs;
 mod notation;
-mod readers;
 mod schemas;
 mod tally;
-mod writers;
 
 pub use draws::Draws;
+pub use faults::{Fault, NO_FAULT, PiecedBytes, Taking};
 pub use files::print_cases;
-pub use logs::{cut, log_of};
-pub use notation::{bytes_of, push_bytes};
-pub use readers::{Bytewise, FailingReader, READER_ROWS, ReaderRow};
+pub use grammar::{Grammar, drawn_line, drawn_part, write_drawn, write_word};
+pub use logs::{log_text, sorted_rows};
+pub use notation::{bytes_of, numbered_text, push_bytes, text_in};
 pub use schemas::{chain, doubling};
-pub use tally::{Tally, is_remark, paragraphs_of, rows_of};
-pub use writers::{FailingWriter, WRITER_ROWS, WriterRow};
+pub use tally::{
+    CaseError, Made, Said, Tally, cut, deed_of, halves, is_remark, number_of, paragraphs_of, parted,
+    rows_of, small_of,
+};

@@ -1,138 +1,108 @@
 // Logs in words.
-use std::alloc::{AllocError, Global};
+use crate::tally::{Made, cut};
+use std::alloc::Global;
 
-/// What comes before the first space, and what comes after it.
-pub fn cut(text: &str) -> (&str, &str) {
-    text.split_once(" ").unwrap_or((text, ""))
+fn write_version_key(out: &mut String, subject: &str, version: &str) -> Made<()> {
+    write!(
+        out,
+        "{{\"keytype\":\"SCHEMA\",\"subject\":\"{subject}\",\"version\":{version},\"magic\":1}}\t"
+    )
 }
 
-/// A text as a string of JSON. It has no control character.
-fn write_text(out: &mut String, text: &str) -> Result<(), AllocError> {
-    out.push('"')?;
-    for letter in text.chars() {
-        if letter == '"' || letter == '\\' {
-            out.push('\\')?;
-        }
-        out.push(letter)?;
-    }
-    out.push('"')
-}
-
-fn write_scope(out: &mut String, word: &str) -> Result<(), AllocError> {
-    if word == "*" {
-        out.push_str("null")
-    } else {
-        write_text(out, word)
-    }
+fn write_version(out: &mut String, words: &str, deleted: bool) -> Made<()> {
+    let (subject, rest) = cut(words);
+    let (version, rest) = cut(rest);
+    let (id, name) = cut(rest);
+    write_version_key(out, subject, version)?;
+    write!(
+        out,
+        "{{\"subject\":\"{subject}\",\"version\":{version},\"id\":{id},\"schema\":\"\\\"{name}\\\"\",\"deleted\":{deleted}}}"
+    )
 }
 
 /// The key and the value of a setting, whose names in the formats are given.
-fn write_setting(
-    out: &mut String,
-    rest: &str,
-    keytype: &str,
-    member: &str,
-) -> Result<(), AllocError> {
-    let (scope, name) = cut(rest);
+fn write_setting(out: &mut String, words: &str, keytype: &str, member: &str) -> Made<()> {
+    let (scope, name) = cut(words);
     write!(out, "{{\"keytype\":\"{keytype}\",\"subject\":")?;
-    write_scope(out, scope)?;
-    out.push_str(",\"magic\":0}\t")?;
-    if name == "-" {
-        out.push_str("null")
-    } else {
-        write!(out, "{{\"{member}\":\"{name}\"}}")
+    match scope {
+        "*" => out.push_str("null,\"magic\":0}\t")?,
+        _ => write!(out, "\"{scope}\",\"magic\":0}}\t")?,
+    }
+    match name {
+        "-" => out.push_str("null"),
+        _ => write!(out, "{{\"{member}\":\"{name}\"}}"),
     }
 }
 
-fn write_version_key(out: &mut String, subject: &str, version: &str) -> Result<(), AllocError> {
-    out.push_str("{\"keytype\":\"SCHEMA\",\"subject\":")?;
-    write_text(out, subject)?;
-    write!(out, ",\"version\":{version},\"magic\":1}}\t")
+fn write_delete(out: &mut String, words: &str) -> Made<()> {
+    let (subject, version) = cut(words);
+    write!(
+        out,
+        "{{\"keytype\":\"DELETE_SUBJECT\",\"subject\":\"{subject}\",\"magic\":0}}\t{{\"subject\":\"{subject}\",\"version\":{version}}}"
+    )
 }
 
-/// A version's key, and its value up to its schema.
-fn write_version(
-    out: &mut String,
-    subject: &str,
-    version: &str,
-    id: &str,
-) -> Result<(), AllocError> {
+fn write_mark(out: &mut String, id: &str) -> Made<()> {
+    out.push_str("{\"keytype\":\"ID_MARK\",\"magic\":0}\t")?;
+    match id {
+        "-" => out.push_str("null"),
+        _ => write!(out, "{{\"id\":{id}}}"),
+    }
+}
+
+/// A version's record with another value than a version's.
+fn write_other(out: &mut String, words: &str, value: &str) -> Made<()> {
+    let (subject, version) = cut(words);
     write_version_key(out, subject, version)?;
-    out.push_str("{\"subject\":")?;
-    write_text(out, subject)?;
-    write!(out, ",\"version\":{version},\"id\":{id},")
+    out.push_str(value)
 }
 
-fn write_schema(out: &mut String, rest: &str) -> Result<(), AllocError> {
-    let (subject, rest) = cut(rest);
-    let (version, rest) = cut(rest);
-    let (id, schema) = cut(rest);
-    write_version(out, subject, version, id)?;
-    out.push_str("\"schema\":")?;
-    write_text(out, schema)?;
-    out.push_str(",\"deleted\":false}")
-}
-
-fn write_foreign_schema(out: &mut String, rest: &str) -> Result<(), AllocError> {
-    let (subject, rest) = cut(rest);
-    let (version, id) = cut(rest);
-    write_version(out, subject, version, id)?;
-    out.push_str("\"schemaType\":\"PROTOBUF\",\"schema\":\"x\",\"deleted\":false}")
-}
-
-fn write_tombstone(out: &mut String, rest: &str) -> Result<(), AllocError> {
-    let (subject, version) = cut(rest);
-    write_version_key(out, subject, version)?;
-    out.push_str("null")
-}
-
-fn write_delete(out: &mut String, rest: &str) -> Result<(), AllocError> {
-    let (subject, version) = cut(rest);
-    out.push_str("{\"keytype\":\"DELETE_SUBJECT\",\"subject\":")?;
-    write_text(out, subject)?;
-    out.push_str(",\"magic\":0}\t{\"subject\":")?;
-    write_text(out, subject)?;
-    write!(out, ",\"version\":{version}}}")
-}
-
-/// The key and the value of a line, with a TAB between them. Of no kind there is none.
-fn write_fields(out: &mut String, kind: &str, rest: &str) -> Result<(), AllocError> {
+/// The key and the value of a record, with a TAB between them. Of no kind there is none.
+fn write_fields(out: &mut String, kind: &str, words: &str) -> Made<()> {
     match kind {
-        "S" => write_schema(out, rest),
-        "P" => write_foreign_schema(out, rest),
-        "N" => write_tombstone(out, rest),
-        "D" => write_delete(out, rest),
-        "C" => write_setting(out, rest, "CONFIG", "compatibilityLevel"),
-        "M" => write_setting(out, rest, "MODE", "mode"),
+        "S" => write_version(out, words, false),
+        "X" => write_version(out, words, true),
+        "N" => write_other(out, words, "null"),
+        "U" => write_other(out, words, "{}"),
+        "D" => write_delete(out, words),
+        "C" => write_setting(out, words, "CONFIG", "compatibilityLevel"),
+        "M" => write_setting(out, words, "MODE", "mode"),
+        "I" => write_mark(out, words),
+        "O" => out.push_str("{\"keytype\":\"NOOP\",\"magic\":0}\tnull"),
         _ => Ok(()),
     }
 }
 
-fn write_line(out: &mut String, line: &str) -> Result<(), AllocError> {
-    let (kind, rest) = cut(line);
-    let (offset, rest) = cut(rest);
-    out.push_str(offset)?;
-    out.push('\t')?;
-    write_fields(out, kind, rest)?;
-    out.push('\n')
-}
-
-fn write_log(out: &mut String, lines: &str) -> Result<(), AllocError> {
-    if lines.is_empty() {
-        return Ok(());
-    }
-    for line in lines.split(";") {
-        write_line(out, line)?;
-    }
-    Ok(())
-}
-
-/// The log whose lines in words are parted by semicolons. Such a line is a kind, an offset and what the kind has: `S`
-/// a subject, version, id and schema, `N` a subject and version without a value, `P` one of another schema language,
-/// `D` a subject and the greatest version of a soft delete, `C` and `M` a scope and the name of a level or a mode,
-/// where `*` is all subjects and `-` no value.
-pub fn log_of(alloc: Global, lines: &str) -> Result<String, AllocError> {
+/// The lines of records in words. A record is a kind, an offset and what the kind has: `S` a subject, version, id and the name of a
+/// primitive type; `X` the same, where the value says that it is deleted; `N` a subject and version without a value; `U` one whose
+/// value can't be read; `D` a subject and the greatest version of a soft delete; `C` and `M` a scope and the name of a level or a
+/// mode, where `*` is all subjects and `-` no value; `I` the id up to which ids were given away, or `-`; `O` is a record of no
+/// operation. `F` is a floor.
+pub fn log_text(alloc: Global, records: &[&str]) -> Made<String> {
     let mut log = String::new(alloc);
-    write_log(&mut log, lines)?;
+    for words in records {
+        let (kind, rest) = cut(words);
+        let (offset, rest) = cut(rest);
+        if kind == "F" {
+            write!(log, "floor\t{offset}\n")?;
+            continue;
+        }
+        write!(log, "{offset}\t")?;
+        write_fields(&mut log, kind, rest)?;
+        log.push('\n')?;
+    }
     Ok(log)
+}
+
+/// The rows of records, which begin with a capital letter, and the other ones.
+pub fn sorted_rows<'t>(alloc: Global, text: &'t str) -> Made<(Vec<&'t str>, Vec<&'t str>)> {
+    let (mut records, mut others) = (Vec::new(alloc), Vec::new(alloc));
+    for row in text.lines() {
+        match row.as_bytes().first() {
+            None | Some(b'#') => {}
+            Some(b'A'..=b'Z') => records.push(row)?,
+            Some(_) => others.push(row)?,
+        }
+    }
+    Ok((records, others))
 }

@@ -1,9 +1,10 @@
 // Schemas that are large or deep.
-use std::alloc::{AllocError, Global};
+use crate::tally::Made;
+use std::alloc::Global;
 
 /// A record without fields, inside as many records as that, each of which has two fields of the
 /// one inside it: 2^(count+1)-1 parts.
-pub fn doubling(alloc: Global, count: usize) -> Result<String, AllocError> {
+pub fn doubling(alloc: Global, count: usize) -> Made<String> {
     let mut text = String::from_str(alloc, r#"{"type":"record","name":"R0","fields":[]}"#)?;
     for k in 0..count {
         let outside = format!(in alloc; "{}", k + 1)?;
@@ -19,7 +20,7 @@ pub fn doubling(alloc: Global, count: usize) -> Result<String, AllocError> {
 /// A record whose last field is of the last of as many records as that, each with a field of the
 /// one before it and the first with an int: count + 2 levels. The records are defined in arrays,
 /// which are empty in a sample.
-pub fn chain(alloc: Global, count: usize) -> Result<String, AllocError> {
+pub fn chain(alloc: Global, count: usize) -> Made<String> {
     let mut text = String::from_str(
         alloc,
         r#"{"type":"record","name":"R","fields":[{"name":"f","type":{"type":"array","items":{"type":"record","name":"R0","fields":[{"name":"a","type":"int"}]}}}"#,

@@ -42,34 +42,32 @@ fn has_count(
     Ok(front_in(rt, alloc, &mut disk, all)? == count)
 }
 
-/// Opens the files that a crash leaves after that many steps of opening another, and counts them.
+/// Opens the files that a crash leaves after some steps of opening another.
 fn open_each(
     rt: &impl Abort,
     alloc: Global,
     images: &[Vec<u8>],
     all: &[Record],
     count: usize,
-) -> Result<u64, Fail> {
+) -> Result<(), Fail> {
     for image in images {
         assert!(rt; has_count(rt, alloc, image, all, count)?);
     }
-    Ok(images.len() as u64)
+    Ok(())
 }
 
-/// Crashes at each step of opening a file that has so many records, and counts the files that are opened then.
-fn opened_again(
+/// Crashes at each step of opening a file that has so many records, and opens what that leaves.
+fn open_again(
     rt: &impl Abort,
     alloc: Global,
     disk: &Torn,
     all: &[Record],
     count: usize,
-) -> Result<u64, Fail> {
-    let mut opened: u64 = 0;
+) -> Result<(), Fail> {
     for k in 0..=disk.steps() {
-        let more = open_each(rt, alloc, &disk.images(k)?, all, count)?;
-        opened = opened.saturating_add(more);
+        open_each(rt, alloc, &disk.images(k)?, all, count)?;
     }
-    Ok(opened)
+    Ok(())
 }
 
 /// A batch that was appended, or was to be.
@@ -82,54 +80,43 @@ struct Trial<'a> {
     is_twice: bool,
 }
 
-/// Opens a file that a crash left: how many records it has, and how many files were opened.
-fn reopened(
-    rt: &impl Abort,
-    alloc: Global,
-    image: &[u8],
-    trial: Trial,
-) -> Result<(usize, u64), Fail> {
+/// Opens a file that a crash left, and tells how many records it has.
+fn reopened(rt: &impl Abort, alloc: Global, image: &[u8], trial: Trial) -> Result<usize, Fail> {
     let mut disk = Torn::new(alloc, image, NEVER)?;
     let count = front_in(rt, alloc, &mut disk, trial.all)?;
-    let again = if trial.is_twice {
-        opened_again(rt, alloc, &disk, trial.all, count)?
-    } else {
-        0
-    };
-    Ok((count, again.saturating_add(1)))
+    if trial.is_twice {
+        open_again(rt, alloc, &disk, trial.all, count)?;
+    }
+    Ok(count)
 }
 
-/// Opens files that a crash left, in which the batch is whole or absent, or surely whole; counts the files that were opened.
-fn are_whole(
+/// Opens files that a crash left, in which the batch is whole or absent, or surely whole.
+fn open_all(
     rt: &impl Abort,
     alloc: Global,
     images: &[Vec<u8>],
     trial: Trial,
     is_sure: bool,
-) -> Result<u64, Fail> {
-    let mut opened: u64 = 0;
+) -> Result<(), Fail> {
     for image in images {
-        let (count, files) = reopened(rt, alloc, image, trial)?;
+        let count = reopened(rt, alloc, image, trial)?;
         assert!(rt; count == trial.all.len() || (count == trial.before && !is_sure));
-        opened = opened.saturating_add(files);
     }
-    Ok(opened)
+    Ok(())
 }
 
 /// Crashes at each of the four steps of an append.
-fn crashed(
+fn crash(
     rt: &impl Abort,
     alloc: Global,
     disk: &Torn,
     trial: Trial,
     is_taken: bool,
-) -> Result<u64, Fail> {
-    let mut opened: u64 = 0;
+) -> Result<(), Fail> {
     for k in 0..=disk.steps().min(4) {
-        let files = are_whole(rt, alloc, &disk.images(k)?, trial, is_taken && k == 4)?;
-        opened = opened.saturating_add(files);
+        open_all(rt, alloc, &disk.images(k)?, trial, is_taken && k == 4)?;
     }
-    Ok(opened)
+    Ok(())
 }
 
 /// Appends a batch twice, and tells whether it was taken; where it wasn't, the journal is broken.
@@ -147,13 +134,13 @@ fn is_taken(rt: &impl Abort, alloc: Global, journal: &mut Journal<Torn>, batch: 
 }
 
 /// Appends a batch behind others, the step of that number refused, and crashes at each step.
-fn tried(
+fn try_batch(
     rt: &impl Abort,
     alloc: Global,
     before: u64,
     more: u64,
     fails_at: usize,
-) -> Result<u64, Fail> {
+) -> Result<(), Fail> {
     let all = batch_of(alloc, 0, before.saturating_add(more))?;
     let batch = batch_of(alloc, before, more)?;
     let mut journal = journal_of(alloc, &batch_of(alloc, 0, before)?, fails_at)?;
@@ -164,21 +151,19 @@ fn tried(
         before: all.len().saturating_sub(batch.len()),
         is_twice: all.len() < 2 && fails_at == 4,
     };
-    crashed(rt, alloc, journal.disk(), trial, is_taken)
+    crash(rt, alloc, journal.disk(), trial, is_taken)
 }
 
 #[test]
 fn a_batch_is_whole_or_absent_after_each_crash(rt: HostRuntime) -> Result<(), Fail> {
     let alloc = rt.alloc();
-    let mut opened: u64 = 0;
     for before in 0..2 {
         for more in 1..3 {
             for fails_at in 0..5 {
-                opened = opened.saturating_add(tried(&rt, alloc, before, more, fails_at)?);
+                try_batch(&rt, alloc, before, more, fails_at)?;
             }
         }
     }
-    println!(rt; "{opened} files were opened")?;
     Ok(())
 }
 

@@ -5,8 +5,9 @@ ghost use Rattle.reg_records.specs.Written.{HasLine};
 use crate::batches::file_of;
 use reg_journal::{Disk, DiskError, Journal, RenewError, Renewable};
 use reg_records::Record;
-use std::alloc::{AllocError, Global};
+use std::alloc::Global;
 use std::test::Fail;
+use test_tools::Made;
 
 /// A step that no file comes to.
 pub(super) const NEVER: usize = 1_000_000;
@@ -36,7 +37,7 @@ pub(crate) struct Torn {
 }
 
 impl Torn {
-    pub(crate) fn new(alloc: Global, image: &[u8], fails_at: usize) -> Result<Torn, AllocError> {
+    pub(crate) fn new(alloc: Global, image: &[u8], fails_at: usize) -> Made<Torn> {
         Ok(Torn {
             alloc,
             start: image.to_vec(alloc)?,
@@ -66,7 +67,7 @@ impl Torn {
     }
 
     /// The files that a crash may leave after that many steps.
-    pub(crate) fn images(&self, count: usize) -> Result<Vec<Vec<u8>>, AllocError> {
+    pub(crate) fn images(&self, count: usize) -> Made<Vec<Vec<u8>>> {
         let mut on_disk = self.start.to_vec(self.alloc)?;
         let mut seen = self.start.to_vec(self.alloc)?;
         let mut images = Vec::new(self.alloc);
@@ -136,7 +137,7 @@ fn back(bytes: &[u8], from: usize) -> &[u8] {
 }
 
 /// The file with these bytes at that place.
-fn overlaid(alloc: Global, old: &[u8], at: usize, bytes: &[u8]) -> Result<Vec<u8>, AllocError> {
+fn overlaid(alloc: Global, old: &[u8], at: usize, bytes: &[u8]) -> Made<Vec<u8>> {
     let mut new = front(old, at).to_vec(alloc)?;
     new.extend_from_slice(bytes)?;
     new.extend_from_slice(back(old, at.saturating_add(bytes.len())))?;
@@ -151,7 +152,7 @@ fn add_writes(
     old: &[u8],
     at: usize,
     bytes: &[u8],
-) -> Result<(), AllocError> {
+) -> Made<()> {
     if bytes.len() == 1 && at < old.len() {
         images.push(overlaid(alloc, old, at, bytes)?)?;
         return Ok(());
@@ -177,7 +178,7 @@ fn filled(
     bytes: &[u8],
     kept: usize,
     filler: u8,
-) -> Result<Vec<u8>, AllocError> {
+) -> Made<Vec<u8>> {
     let mut torn = front(bytes, kept).to_vec(alloc)?;
     for _ in back(bytes, kept) {
         torn.push(filler)?;
@@ -186,13 +187,7 @@ fn filled(
 }
 
 /// Zeros for the front of the bytes, and the others.
-fn hollow(
-    alloc: Global,
-    old: &[u8],
-    at: usize,
-    bytes: &[u8],
-    lost: usize,
-) -> Result<Vec<u8>, AllocError> {
+fn hollow(alloc: Global, old: &[u8], at: usize, bytes: &[u8], lost: usize) -> Made<Vec<u8>> {
     let mut torn = Vec::new(alloc);
     for _ in front(bytes, lost) {
         torn.push(0)?;
@@ -202,12 +197,7 @@ fn hollow(
 }
 
 /// What a crash leaves of a cut: any length between, with the old bytes or zeros.
-fn add_cuts(
-    alloc: Global,
-    images: &mut Vec<Vec<u8>>,
-    old: &[u8],
-    len: usize,
-) -> Result<(), AllocError> {
+fn add_cuts(alloc: Global, images: &mut Vec<Vec<u8>>, old: &[u8], len: usize) -> Made<()> {
     for k in len..old.len() {
         images.push(front(old, k).to_vec(alloc)?)?;
         let mut zeroed = front(old, len).to_vec(alloc)?;

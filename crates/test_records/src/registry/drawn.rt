@@ -1,8 +1,8 @@
 // Logs of lines that are drawn.
 use super::plain::{NUMBERS, SUBJECTS};
-use reg_fold::reg_records::{Device, LogError, Record, read_log};
-use std::alloc::{AllocError, Global};
-use test_tools::Draws;
+use reg_records::{Device, LogError, Record, read_log};
+use std::alloc::Global;
+use test_tools::{Draws, Made};
 
 /// The normal texts of the schemas, as a value's text has them.
 static SCHEMAS: [&str; 3] = ["\\\"int\\\"", "\\\"long\\\"", "\\\"string\\\""];
@@ -13,7 +13,7 @@ fn one_of(draws: &mut Draws, words: &'static [&'static str]) -> &'static str {
 }
 
 /// Adds the end of a line's key, and its value, by what the line is of. Where a number is 0, the value can't be read.
-fn push_rest(log: &mut String, draws: &mut Draws, subject: &str) -> Result<(), AllocError> {
+fn push_rest(log: &mut String, draws: &mut Draws, subject: &str) -> Made<()> {
     let version = draws.number(NUMBERS - 1).saturating_add(1);
     let number = draws.number(NUMBERS);
     let schema = one_of(draws, &SCHEMAS);

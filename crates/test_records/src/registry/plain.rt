@@ -1,9 +1,10 @@
 // A registry as a list of entries, each made by walks over all records.
+use base_text::Text;
 use reg_fold::Entry;
-use reg_fold::base_text::Text;
-use reg_fold::reg_records::{Key, Record, Value};
-use reg_fold::reg_values::decode_value;
-use std::alloc::{AllocError, Global};
+use reg_records::{Key, Record, Value};
+use reg_values::decode_value;
+use std::alloc::Global;
+use test_tools::Made;
 
 /// The subjects of lines, by their bytes.
 pub(crate) static SUBJECTS: [&str; 4] = ["", "s", "s!", "sé"];
@@ -31,7 +32,7 @@ fn last<'r>(records: &'r [Record], key: &Key) -> Option<&'r Record> {
 }
 
 /// What the last record of a key says, with its offset.
-fn said(alloc: Global, records: &[Record], key: &Key) -> Result<Option<(u64, Value)>, AllocError> {
+fn said(alloc: Global, records: &[Record], key: &Key) -> Made<Option<(u64, Value)>> {
     let Some(record) = last(records, key) else {
         return Ok(None);
     };
@@ -39,7 +40,7 @@ fn said(alloc: Global, records: &[Record], key: &Key) -> Result<Option<(u64, Val
 }
 
 /// Whether the last soft delete of its subject is of that version or a later one, and came after it.
-fn is_marked(alloc: Global, records: &[Record], entry: &Entry) -> Result<bool, AllocError> {
+fn is_marked(alloc: Global, records: &[Record], entry: &Entry) -> Made<bool> {
     let key = Key::DeleteSubject(entry.subject.clone()?);
     match said(alloc, records, &key)? {
         Some((offset, Value::DeleteSubject { version, .. })) => {
@@ -49,11 +50,7 @@ fn is_marked(alloc: Global, records: &[Record], entry: &Entry) -> Result<bool, A
     }
 }
 
-fn entry_of(
-    alloc: Global,
-    records: &[Record],
-    record: &Record,
-) -> Result<Option<Entry>, AllocError> {
+fn entry_of(alloc: Global, records: &[Record], record: &Record) -> Made<Option<Entry>> {
     let Some(
         Value::Schema {
             subject,
@@ -80,7 +77,7 @@ fn entry_of(
 }
 
 /// The id of the last mark; 0 where it can't be read, or there is none.
-fn mark_of(alloc: Global, records: &[Record]) -> Result<u32, AllocError> {
+fn mark_of(alloc: Global, records: &[Record]) -> Made<u32> {
     match said(alloc, records, &Key::IdMark)? {
         Some((_, Value::IdMark(id))) => Ok(id),
         _ => Ok(0),
@@ -99,7 +96,7 @@ pub(crate) struct PlainRegistry {
 
 impl PlainRegistry {
     /// The registry over some records.
-    pub(crate) fn of(alloc: Global, records: &[Record]) -> Result<PlainRegistry, AllocError> {
+    pub(crate) fn of(alloc: Global, records: &[Record]) -> Made<PlainRegistry> {
         let mut registry = PlainRegistry {
             entries: Vec::new(alloc),
             opaque: None,
@@ -109,7 +106,7 @@ impl PlainRegistry {
         Ok(registry)
     }
 
-    fn fill(&mut self, alloc: Global, records: &[Record]) -> Result<(), AllocError> {
+    fn fill(&mut self, alloc: Global, records: &[Record]) -> Made<()> {
         for subject in &SUBJECTS {
             for version in 1..NUMBERS {
                 let subject = Text::copy_of(alloc, subject)?;
@@ -122,12 +119,7 @@ impl PlainRegistry {
     }
 
     /// Adds what the last record of a version gives.
-    fn add(
-        &mut self,
-        alloc: Global,
-        records: &[Record],
-        record: &Record,
-    ) -> Result<(), AllocError> {
+    fn add(&mut self, alloc: Global, records: &[Record], record: &Record) -> Made<()> {
         match entry_of(alloc, records, record)? {
             Some(entry) => self.entries.push(entry)?,
             None if record.value.is_some() => self.add_opaque(record.offset),

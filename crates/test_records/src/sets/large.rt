@@ -1,15 +1,12 @@
 // Sets that take thousands of records, and hold them all, and copies of last records.
 use super::side_by_side::wide;
-use reg_fold::reg_records::{LogError, Record};
-use reg_fold::reg_set::{LastRecords, RecordSet, TakeOutcome};
-use std::alloc::{AllocError, Global};
+use reg_records::{LogError, Record};
+use reg_set::{LastRecords, RecordSet, TakeOutcome};
+use std::alloc::Global;
+use test_tools::Made;
 
 /// Takes records in turn, and tells whether that is said of each.
-fn are_taken(
-    set: &mut RecordSet,
-    records: &[Record],
-    taken: TakeOutcome,
-) -> Result<bool, AllocError> {
+fn are_taken(set: &mut RecordSet, records: &[Record], taken: TakeOutcome) -> Made<bool> {
     for record in records {
         if set.take(record)? != taken {
             return Ok(false);
@@ -29,7 +26,7 @@ fn has_each(set: &RecordSet, records: &[Record]) -> bool {
 }
 
 /// Whether records of as many keys are fresh, and then repeats, and the set has them in their order.
-fn hold(alloc: Global, records: &[Record], in_order: &[Record]) -> Result<bool, AllocError> {
+fn hold(alloc: Global, records: &[Record], in_order: &[Record]) -> Made<bool> {
     let mut set = RecordSet::new(alloc);
     Ok(
         are_taken(&mut set, records, TakeOutcome::Fresh)?
@@ -56,7 +53,7 @@ fn a_set_takes_thousands_of_records(rt: HostRuntime) {
 }
 
 /// Whether each record is the last of its key, and there are no others.
-fn are_lasts(alloc: Global, lasts: &LastRecords, records: &[Record]) -> Result<bool, AllocError> {
+fn are_lasts(alloc: Global, lasts: &LastRecords, records: &[Record]) -> Made<bool> {
     for record in records {
         if !lasts.contains(record) {
             return Ok(false);

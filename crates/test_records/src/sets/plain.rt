@@ -1,8 +1,9 @@
 // A set of records as the list of their lines in order, each of whose answers looks at all lines.
 use crate::lines::Line;
-use reg_fold::reg_records::Record;
-use reg_fold::reg_set::TakeOutcome;
-use std::alloc::{AllocError, Global};
+use reg_records::Record;
+use reg_set::TakeOutcome;
+use std::alloc::Global;
+use test_tools::Made;
 
 #[derive(Drop)]
 pub(crate) struct PlainSet<'a> {
@@ -17,7 +18,7 @@ impl<'a> PlainSet<'a> {
         }
     }
 
-    pub(crate) fn take(&mut self, given: Line<'a>) -> Result<TakeOutcome, AllocError> {
+    pub(crate) fn take(&mut self, given: Line<'a>) -> Made<TakeOutcome> {
         if self.contains(given) {
             return Ok(TakeOutcome::Repeat);
         }
@@ -56,7 +57,7 @@ impl<'a> PlainSet<'a> {
         self.last(given.key) == Some(given.record)
     }
 
-    pub(crate) fn merge(&mut self, other: &PlainSet<'a>) -> Result<(), AllocError> {
+    pub(crate) fn merge(&mut self, other: &PlainSet<'a>) -> Made<()> {
         for line in &other.lines {
             self.take(*line)?;
         }
@@ -64,7 +65,7 @@ impl<'a> PlainSet<'a> {
     }
 
     /// Leaves the last record of each key alone.
-    pub(crate) fn compact(&mut self, alloc: Global) -> Result<(), AllocError> {
+    pub(crate) fn compact(&mut self, alloc: Global) -> Made<()> {
         let mut lines = Vec::new(alloc);
         for line in &self.lines {
             if self.has_last(*line) {

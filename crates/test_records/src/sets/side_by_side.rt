@@ -1,10 +1,10 @@
 // Sets beside plain ones, on lines that are drawn and on wide ones.
 use super::plain::PlainSet;
 use crate::lines::{Line, Log};
-use reg_fold::reg_records::{LogError, Record};
-use reg_fold::reg_set::{LastRecords, RecordSet, TakeOutcome, keeps_lasts};
-use std::alloc::{AllocError, Global};
-use test_tools::Draws;
+use reg_records::{LogError, Record};
+use reg_set::{LastRecords, RecordSet, TakeOutcome, keeps_lasts};
+use std::alloc::Global;
+use test_tools::{Draws, Made};
 
 /// Keys by the bytes of their texts. Some subjects share a beginning, and some have what JSON escapes,
 /// or what stands before the quote that ends a text.
@@ -38,7 +38,7 @@ static KEYS: [&str; 26] = [
 ];
 
 /// Lines with few keys and with offsets below the limit.
-fn drawn(alloc: Global, draws: &mut Draws, count: usize, offsets: u64) -> Result<Log, AllocError> {
+fn drawn(alloc: Global, draws: &mut Draws, count: usize, offsets: u64) -> Made<Log> {
     let mut log = Log::new(alloc);
     for _ in 0..count {
         let key = KEYS.get(draws.place(KEYS.len())).copied().unwrap_or("");
@@ -50,22 +50,13 @@ fn drawn(alloc: Global, draws: &mut Draws, count: usize, offsets: u64) -> Result
 }
 
 /// Whether a set has the records of those lines, in their order.
-fn has_lines(set: &RecordSet, lines: &[Line]) -> Result<bool, AllocError> {
+fn has_lines(set: &RecordSet, lines: &[Line]) -> Made<bool> {
     let records = set.records()?;
     let are_same = records
         .iter()
         .zip(lines)
         .all(|(record, line)| record == line.record);
     Ok(are_same && records.len() == lines.len())
-}
-
-/// Whether two records are the same one, or neither is there.
-fn are_equal(left: Option<&Record>, right: Option<&Record>) -> bool {
-    match (left, right) {
-        (Some(left), Some(right)) => left == right,
-        (None, None) => true,
-        _ => false,
-    }
 }
 
 /// Sets of the same records.
@@ -86,7 +77,7 @@ impl<'a> Both<'a> {
     }
 
     /// Takes a line's record, and tells whether the answers are alike.
-    fn take(&mut self, line: Line<'a>) -> Result<bool, AllocError> {
+    fn take(&mut self, line: Line<'a>) -> Made<bool> {
         let are_put_alike = self.put(line)?;
         let is_news = self.lasts.is_news(line.record);
         self.lasts.put(line.record)?;
@@ -101,7 +92,7 @@ impl<'a> Both<'a> {
     }
 
     /// Puts a record into the last ones and takes it back, and tells whether the answers are alike.
-    fn put(&mut self, line: Line<'a>) -> Result<bool, AllocError> {
+    fn put(&mut self, line: Line<'a>) -> Made<bool> {
         let record = line.record;
         let last = self.plain.last(line.key);
         if !self.lasts.is_news(record) {
@@ -116,7 +107,7 @@ impl<'a> Both<'a> {
 
     /// Removes a record from the last ones and puts it again, and tells whether its key was without one
     /// meanwhile; a record that isn't a last one removes no other.
-    fn remove(&mut self, line: Line<'a>) -> Result<bool, AllocError> {
+    fn remove(&mut self, line: Line<'a>) -> Made<bool> {
         let stood = self.lasts.contains(line.record);
         self.lasts.remove(line.record);
         let left = self.lasts.last(&line.record.key);
@@ -134,7 +125,7 @@ impl<'a> Both<'a> {
     }
 
     /// Takes lines in turn, and tells whether the answers are alike, and the set is that of all their records at once.
-    fn take_all(&mut self, alloc: Global, taking: Taking<'a>) -> Result<bool, AllocError> {
+    fn take_all(&mut self, alloc: Global, taking: Taking<'a>) -> Made<bool> {
         for line in taking.lines {
             if !self.take(*line)? {
                 return Ok(false);
@@ -144,7 +135,7 @@ impl<'a> Both<'a> {
         Ok(self.are_same()? && has_lines(&at_once, &self.plain.lines)?)
     }
 
-    fn are_same(&self) -> Result<bool, AllocError> {
+    fn are_same(&self) -> Made<bool> {
         has_lines(&self.set, &self.plain.lines)
     }
 
@@ -162,7 +153,7 @@ impl<'a> Both<'a> {
     }
 
     /// Merges with sets of further lines, and tells whether the answers are alike.
-    fn merge_alike(&mut self, added: &Both<'a>, lines: &[Line<'a>]) -> Result<bool, AllocError> {
+    fn merge_alike(&mut self, added: &Both<'a>, lines: &[Line<'a>]) -> Made<bool> {
         let are_alike = self.contain_alike(lines) && self.keep_lasts_alike(added);
         self.set.merge(&added.set)?;
         self.plain.merge(&added.plain)?;
@@ -170,7 +161,7 @@ impl<'a> Both<'a> {
     }
 
     /// Compacts the sets, and tells whether the answers are alike.
-    fn compact_alike(&mut self, alloc: Global) -> Result<bool, AllocError> {
+    fn compact_alike(&mut self, alloc: Global) -> Made<bool> {
         let whole = self.set.clone()?;
         self.set.compact();
         self.plain.compact(alloc)?;
@@ -193,7 +184,7 @@ fn join_alike<'a>(
     both: &mut Both<'a>,
     added: &mut Both<'a>,
     takings: (Taking<'a>, Taking<'a>),
-) -> Result<bool, AllocError> {
+) -> Made<bool> {
     let (one, other) = takings;
     Ok(
         both.take_all(alloc, one)?
@@ -204,7 +195,7 @@ fn join_alike<'a>(
 }
 
 /// Whether taking, merging and compacting leave the same, and what keeps the last records of what.
-fn are_alike(alloc: Global, one: Taking, other: Taking) -> Result<bool, AllocError> {
+fn are_alike(alloc: Global, one: Taking, other: Taking) -> Made<bool> {
     let mut both = Both::new(alloc);
     let mut added = Both::new(alloc);
     join_alike(alloc, &mut both, &mut added, (one, other))
@@ -268,12 +259,7 @@ fn keys_of_one_offset_stand_by_their_texts(rt: HostRuntime) {
 }
 
 /// Versions from the first to the last, or the other way round, at one offset or at many.
-pub(super) fn wide(
-    alloc: Global,
-    count: u64,
-    spread: u64,
-    is_rising: bool,
-) -> Result<Log, AllocError> {
+pub(super) fn wide(alloc: Global, count: u64, spread: u64, is_rising: bool) -> Made<Log> {
     let mut log = Log::new(alloc);
     for place in 0..count {
         let version = if is_rising {
@@ -300,4 +286,13 @@ fn wide_sets_give_the_same_answers(rt: HostRuntime) {
 fn wide_alike(alloc: Global, spread: u64, is_rising: bool) -> Result<bool, LogError> {
     let log = wide(alloc, 149, spread, is_rising)?;
     logs_alike(alloc, &log, &log)
+}
+
+/// Whether two records are the same one, or neither is there.
+fn are_equal(left: Option<&Record>, right: Option<&Record>) -> bool {
+    match (left, right) {
+        (Some(left), Some(right)) => left == right,
+        (None, None) => true,
+        _ => false,
+    }
 }

@@ -1,30 +1,36 @@
 // A node over a listening socket, and what its clients meet.
+use crate::asking::listen;
 use crate::serve::fakes::{EchoDesk, Ledger};
+use crate::trials::Machine;
 use reg_connection::Limits;
 use reg_meters::Traffic;
-use reg_serve::{Follow, Latch, NodeServer, StartError, begin, open_node};
-use std::alloc::Global;
+use reg_serve::{Follow, Latch, NodeServer, Observe, StartError, begin, follow_list, open_node};
+use std::alloc::{AllocError, Global};
 use std::io;
-use std::net::{Net, SocketAddr, TcpListener, TcpStream};
-use std::process::Abort;
-use std::sync::Wait;
-use std::sync::atomic::{AtomicU64, Ordering};
-use std::thread::{self, Parker, Scope, Threads};
-use std::time::Clock;
+use std::net::SocketAddr;
+use std::sync::atomic::Ordering;
+use std::thread::{self, Parker, Scope};
 
-/// Counts its calls.
+/// Follows nothing, and tells when the node is over.
 #[derive(Drop)]
-pub struct Counting<'a> {
-    pub calls: &'a AtomicU64,
-    pub ledger: &'a Ledger,
-    pub grown: Parker,
-    pub traffic: Traffic,
+struct Watching<'a> {
+    ledger: &'a Ledger,
+    grown: Parker,
+    traffic: Traffic,
 }
 
-impl Follow for Counting<'_> {
-    fn follow(&self) {
-        self.calls.fetch_add(1, Ordering::SeqCst);
+impl Observe for Watching<'_> {
+    fn traffic(&self) -> &Traffic {
+        &self.traffic
     }
+
+    fn thread_ended(&self) {
+        self.grown.unpark();
+    }
+}
+
+impl Follow for Watching<'_> {
+    fn follow(&self) {}
 
     fn is_over(&self) -> bool {
         self.ledger.over.load(Ordering::SeqCst)
@@ -33,14 +39,10 @@ impl Follow for Counting<'_> {
     fn grown(&self) -> &Parker {
         &self.grown
     }
-
-    fn traffic(&self) -> &Traffic {
-        &self.traffic
-    }
 }
 
 /// Limits that a busy machine doesn't meet by chance, but for the ones that a test sets.
-pub fn patient() -> Limits {
+pub(crate) fn patient() -> Limits {
     let mut limits = Limits::of_nodes(1);
     limits.linger = 20_000;
     limits.look = 50;
@@ -48,57 +50,46 @@ pub fn patient() -> Limits {
 }
 
 /// Opens a node with so many workers.
-fn open_at<'s, E, R: Threads + Wait + Clock + Sync>(
+fn open_at<'s, E, R: Machine>(
     scope: &Scope<'s, E>,
     rt: &'s R,
     alloc: Global,
     latch: &'s Latch,
-    node: &'s NodeServer<'s, Counting<'s>, u64>,
-    workers: u64,
+    node: &'s NodeServer<'s, Watching<'s>, u64>,
+    size: (u64, u64),
     ledger: &'s Ledger,
-    limit: u64,
 ) -> Result<(), StartError> {
+    let (workers, limit) = size;
     let mut desks = Vec::new(alloc);
     for _worker in 0..workers {
-        let desk = EchoDesk {
-            rt,
-            known: 0,
-            ledger,
-        };
-        if desks.push(desk).is_err() {
+        if desks.push(EchoDesk::new(rt, ledger)).is_err() {
             return Err(StartError);
         }
     }
-    open_node(scope, rt, alloc, latch, node, desks, Some(limit))
+    open_node(scope, rt, alloc, latch, node, desks, Some(limit))?;
+    follow_list(scope, rt, latch, node)
 }
 
 /// What a client gives while a node serves, with so many workers, which ends once so many of its connections
 /// were closed.
-pub fn with_node<
-    R: Threads + Wait + Clock + Net<Listener = TcpListener, Stream = TcpStream> + Abort + Sync,
-    B: Drop,
-    F: FnOnce(SocketAddr) -> io::Result<B>,
->(
-    rt: &R,
+pub(crate) fn with_node<R: Machine, B: Drop, F: FnOnce(SocketAddr) -> io::Result<B>>(
     alloc: Global,
+    rt: &R,
     limits: Limits,
-    workers: u64,
-    limit: u64,
+    size: (u64, u64),
     ledger: &Ledger,
     client: F,
 ) -> io::Result<B>
     requires { F.IsAlwaysCallable client }
 {
-    let listener = TcpListener::bind(rt, ("127.0.0.1", 0))?;
+    let listener = listen(rt)?;
     let address = listener.local_addr()?;
-    let calls = AtomicU64::new(0);
-    let following = Counting {
-        calls: &calls,
+    let following = Watching {
         ledger,
         grown: Parker::new(),
         traffic: Traffic::new(),
     };
-    let node = NodeServer::new(rt, alloc, &listener, following, workers as usize, limits)?;
+    let node = NodeServer::new(rt, alloc, &listener, following, size.0 as usize, limits)?;
     let latch = Latch::new();
     let entry = &latch;
     thread::scope(
@@ -107,8 +98,10 @@ pub fn with_node<
         |scope| -> io::Result<B>
             requires { F.IsAlwaysCallable client }
         {
-            let started = open_at(scope, rt, alloc, entry, &node, workers, ledger, limit);
-            assert!(rt; begin(entry, started, || true).is_ok());
+            let started = open_at(scope, rt, alloc, entry, &node, size, ledger);
+            if begin(entry, started, || true).is_err() {
+                return Err(io::Error::from(AllocError));
+            }
             client(address)
         },
     )

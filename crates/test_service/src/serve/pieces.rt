@@ -1,13 +1,15 @@
 // Requests in random pieces, on many connections at a time.
 use crate::serve::fakes::Ledger;
 use crate::serve::nodes::{patient, with_node};
-use std::alloc::{AllocError, Global};
+use crate::trials::{Machine, Trial, tried};
+use std::alloc::Global;
 use std::io::{self, Read, Write};
-use std::net::{Net, SocketAddr, TcpListener, TcpStream};
-use std::sync::Wait;
+use std::net::{SocketAddr, TcpStream};
 use std::sync::atomic::{AtomicU64, Ordering};
-use std::thread::{self, Threads};
+use std::test::Fail;
+use std::thread;
 use std::time::Duration;
+use test_tools::{Draws, Made, Tally};
 
 /// The clients, the connections of each, and the rounds of each connection.
 const CLIENTS: u64 = 4;
@@ -15,13 +17,6 @@ const CLIENTS: u64 = 4;
 const CONNECTIONS: u64 = 75;
 
 const ROUNDS: u64 = 170;
-
-/// The next of some numbers that look random.
-fn next_random(state: u64) -> u64 {
-    state
-        .wrapping_mul(6_364_136_223_846_793_005)
-        .wrapping_add(1_442_695_040_888_963_407)
-}
 
 /// A connection, with what is sent on it in a round and what is to be answered.
 #[derive(Drop)]
@@ -33,7 +28,7 @@ struct Talk {
 }
 
 /// Adds a request for an id, and its answer.
-fn add_talk(requests: &mut String, answers: &mut String, id: u64) -> Result<(), AllocError> {
+fn add_talk(requests: &mut String, answers: &mut String, id: u64) -> Made<()> {
     let len = 2 + id.checked_ilog10().unwrap_or(0) + 1;
     write!(
         requests,
@@ -46,16 +41,15 @@ fn add_talk(requests: &mut String, answers: &mut String, id: u64) -> Result<(), 
 }
 
 impl Talk {
-    /// Begins a round of one to three requests, whose ids count on from that one; how many they are.
-    fn begin(&mut self, id: u64, random: u64) -> io::Result<u64> {
+    /// Begins a round of so many requests, whose ids count on from that one.
+    fn begin(&mut self, id: u64, count: u64) -> io::Result<()> {
         self.requests.clear();
         self.answers.clear();
         self.sent = 0;
-        let count = 1 + (random >> 33) % 3;
         for id in id..id.saturating_add(count) {
             add_talk(&mut self.requests, &mut self.answers, id)?;
         }
-        Ok(count)
+        Ok(())
     }
 
     /// Sends a piece of what is left: so many bytes, or all.
@@ -79,11 +73,7 @@ impl Talk {
 }
 
 /// A connection on which nothing was sent.
-fn connect<R: Net<Stream = TcpStream>>(
-    rt: &R,
-    alloc: Global,
-    address: SocketAddr,
-) -> io::Result<Talk> {
+fn connect<R: Machine>(rt: &R, alloc: Global, address: SocketAddr) -> io::Result<Talk> {
     let stream = TcpStream::connect(rt, address)?;
     stream.set_read_timeout(Some(Duration::from_secs(20)))?;
     Ok(Talk {
@@ -94,108 +84,102 @@ fn connect<R: Net<Stream = TcpStream>>(
     })
 }
 
-/// One round of all connections: each sends a piece, then another one, then the rest, and then all answers
-/// are heard. How many requests there were, and how many rounds of a connection were answered otherwise.
+/// How many requests there were, and how many rounds of a connection were answered otherwise.
+#[derive(Drop)]
+struct Counts {
+    requests: AtomicU64,
+    wrong: AtomicU64,
+}
+
+/// One round of all connections, counted: each sends a piece, then another one, then the rest, and then all answers
+/// are heard.
 fn go_round(
     talks: &mut [Talk],
     buffer: &mut Vec<u8>,
     first: u64,
-    seed: u64,
-) -> io::Result<(u64, u64)> {
-    let (mut random, mut count, mut wrong) = (seed, 0u64, 0u64);
+    counts: &Counts,
+) -> io::Result<()> {
+    let mut draws = Draws::new(first);
     for (n, talk) in talks.iter_mut().enumerate() {
-        random = next_random(random);
-        count = count.saturating_add(talk.begin(first.saturating_add(3 * n as u64), random)?);
-        talk.send(((random >> 40) % 60) as usize)?;
+        let count = draws.below(3).saturating_add(1);
+        counts.requests.fetch_add(count, Ordering::SeqCst);
+        talk.begin(first.saturating_add(3 * n as u64), count)?;
+        talk.send(draws.place(60))?;
     }
     for talk in talks.iter_mut() {
-        random = next_random(random);
-        talk.send(((random >> 40) % 60) as usize)?;
+        talk.send(draws.place(60))?;
     }
     for talk in talks.iter_mut() {
         talk.send(usize::MAX)?;
     }
     for talk in talks.iter_mut() {
         if !talk.hear(buffer)? {
-            wrong = wrong.saturating_add(1);
+            counts.wrong.fetch_add(1, Ordering::SeqCst);
         }
     }
-    Ok((count, wrong))
+    Ok(())
 }
 
-/// What one client does: how many requests it made, and how often it was answered otherwise. Its connections
-/// are lent, so that none has to be dropped on the way.
-fn go_rounds<R: Net<Stream = TcpStream>>(
+/// What one client does. Its connections are lent, so that none has to be dropped on the way.
+fn go_rounds<R: Machine>(
     rt: &R,
     alloc: Global,
     address: SocketAddr,
     client: u64,
     talks: &mut Vec<Talk>,
-    buffer: &mut Vec<u8>,
-) -> io::Result<(u64, u64)> {
+    counts: &Counts,
+) -> io::Result<()> {
     for _connection in 0..CONNECTIONS {
         talks.push(connect(rt, alloc, address)?)?;
     }
-    let (mut count, mut wrong) = (0u64, 0u64);
+    let mut buffer = Vec::new(alloc);
     for round in 0..ROUNDS {
         let first = client
             .saturating_mul(1_000_000)
             .saturating_add(round.saturating_mul(300))
             .saturating_add(1);
-        let (more, missed) = go_round(talks, buffer, first, next_random(first))?;
-        count = count.saturating_add(more);
-        wrong = wrong.saturating_add(missed);
+        go_round(talks, &mut buffer, first, counts)?;
     }
-    Ok((count, wrong))
+    Ok(())
 }
 
-fn visit<R: Net<Stream = TcpStream>>(
-    rt: &R,
-    alloc: Global,
-    address: SocketAddr,
-    client: u64,
-) -> io::Result<(u64, u64)> {
-    let mut talks = Vec::new(alloc);
-    let mut buffer = Vec::new(alloc);
-    go_rounds(rt, alloc, address, client, &mut talks, &mut buffer)
-}
-
-/// What all clients did at the same time.
-fn visit_all<R: Threads + Wait + Net<Listener = TcpListener, Stream = TcpStream> + Sync>(
-    rt: &R,
-    alloc: Global,
-    address: SocketAddr,
-) -> (u64, u64) {
-    let (counts, wrongs) = (AtomicU64::new(0), AtomicU64::new(0));
-    let (count, wrong) = (&counts, &wrongs);
+/// What all clients do at the same time. One that fails counts as a wrong round.
+fn visit_all<R: Machine>(rt: &R, alloc: Global, address: SocketAddr, counts: &Counts) {
     thread::scope(thread::scope_env(), rt, |scope| {
         for client in 0..CLIENTS {
             let started = scope.spawn(move || {
-                let (more, missed) = visit(rt, alloc, address, client).unwrap_or((0, 1));
-                count.fetch_add(more, Ordering::SeqCst);
-                wrong.fetch_add(missed, Ordering::SeqCst);
+                let mut talks = Vec::new(alloc);
+                if go_rounds(rt, alloc, address, client, &mut talks, counts).is_err() {
+                    counts.wrong.fetch_add(1, Ordering::SeqCst);
+                }
             });
             if started.is_err() {
-                wrong.fetch_add(1, Ordering::SeqCst);
+                counts.wrong.fetch_add(1, Ordering::SeqCst);
             }
         }
-    });
-    (counts.load(Ordering::SeqCst), wrongs.load(Ordering::SeqCst))
+    })
+}
+
+/// Lets all clients do what they do while a node of four workers serves.
+pub(crate) fn send_pieces<R: Machine>(alloc: Global, rt: &R, tally: &mut Tally) -> io::Result<()> {
+    let counts = Counts {
+        requests: AtomicU64::new(0),
+        wrong: AtomicU64::new(0),
+    };
+    let size = (4, CLIENTS * CONNECTIONS);
+    with_node(alloc, rt, patient(), size, &Ledger::new(), |address| {
+        visit_all(rt, alloc, address, &counts);
+        Ok(())
+    })?;
+    let is_enough = counts.requests.load(Ordering::SeqCst) >= 100_000;
+    let wrong = counts.wrong.load(Ordering::SeqCst);
+    let came = format!(in alloc; "{wrong} wrong, enough: {is_enough}")?;
+    Ok(tally.count("requests", b"0 wrong, enough: true", came.as_bytes())?)
 }
 
 #[test]
-fn requests_in_pieces_are_answered_each(rt: HostRuntime) -> io::Result<()> {
-    let alloc = rt.alloc();
-    let (count, wrong) = with_node(
-        &rt,
-        alloc,
-        patient(),
-        4,
-        CLIENTS * CONNECTIONS,
-        &Ledger::new(0),
-        |address| Ok(visit_all(&rt, alloc, address)),
-    )?;
-    assert!(rt; count >= 100_000);
-    assert_eq!(rt; wrong, 0);
+fn requests_in_pieces_are_answered_each(rt: HostRuntime) -> Result<(), Fail> {
+    let tally = tried(rt.alloc(), &rt, Trial::Pieces)?;
+    assert_eq!(rt; (tally.cases(), tally.others()), (1, ""));
     Ok(())
 }

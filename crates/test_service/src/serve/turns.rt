@@ -1,10 +1,11 @@
 // Requests of one connection at desks in turn.
 use crate::serve::fakes::{EchoDesk, Ledger};
 use reg_connection::{answer_last, answer_one};
-use reg_conversation::Conversation;
+use reg_conversation::{Conversation, answer_rest, answer_whole, take_piece};
 use reg_http::Paths;
 use reg_records::Device;
 use std::alloc::Global;
+use std::mem;
 use std::time::Clock;
 
 /// A command, and a query that asks for what is known.
@@ -41,42 +42,28 @@ fn last_but_one(text: &[u8]) -> u8 {
 /// Adds the last byte but one of each answer to these requests of one connection, of which every second one
 /// is answered at the second desk; whether all were answered.
 fn talk<R: Clock>(rt: &R, alloc: Global, requests: &[&[u8]], out: &mut Vec<u8>) -> bool {
-    let ledger = Ledger::new(0);
-    let ledger = &ledger;
-    let known = 0;
-    let mut here = EchoDesk { rt, known, ledger };
-    let mut there = EchoDesk { rt, known, ledger };
+    let ledger = Ledger::new();
+    let mut desk = EchoDesk::new(rt, &ledger);
+    let mut other = EchoDesk::new(rt, &ledger);
     let mut conversation = Conversation::new(alloc);
     let (mut paths, mut standing) = (None, None);
-    let mut at_first = true;
     for request in requests {
         if conversation.feed(request).is_err() {
             return false;
         }
-        let answer = if at_first {
-            answer_front(
-                alloc,
-                &mut paths,
-                &mut conversation,
-                &mut standing,
-                &mut here,
-            )
-        } else {
-            answer_front(
-                alloc,
-                &mut paths,
-                &mut conversation,
-                &mut standing,
-                &mut there,
-            )
-        };
-        let Some(text) = answer else {
+        let Some(text) = answer_front(
+            alloc,
+            &mut paths,
+            &mut conversation,
+            &mut standing,
+            &mut desk,
+        ) else {
             return false;
         };
         if out.push(last_but_one(&text)).is_err() {
             return false;
         }
-        at_first = !at_first;
+        mem::swap(&mut desk, &mut other);
     }
     true
 }
@@ -95,12 +82,8 @@ fn what_is_cut_off_is_answered_once(rt: HostRuntime) {
     let alloc = rt.alloc();
     let rows: [(&[u8], &[u8]); 2] = [(b"", b""), (b"GET /", b"HTTP/1.1 400 Bad Request\r\n")];
     for (text, begin) in rows {
-        let ledger = Ledger::new(0);
-        let mut desk = EchoDesk {
-            rt: &rt,
-            known: 0,
-            ledger: &ledger,
-        };
+        let ledger = Ledger::new();
+        let mut desk = EchoDesk::new(&rt, &ledger);
         let mut conversation = Conversation::new(alloc);
         assert!(rt; conversation.feed(text).is_ok());
         assert!(rt; conversation.front_len().is_none());
@@ -121,4 +104,33 @@ fn what_is_cut_off_is_answered_once(rt: HostRuntime) {
                 && (out.is_empty() == begin.is_empty())
         );
     }
+}
+
+/// What is answered to the query where no command was done.
+const ANSWER: &[u8] =
+    b"HTTP/1.1 200 OK\r\nContent-Type: application/vnd.schemaregistry.v1+json\r\nContent-Length: 3\r\n\r\n[0]";
+
+#[test]
+fn a_request_is_answered_once_it_is_whole(rt: HostRuntime) {
+    let alloc = rt.alloc();
+    let ledger = Ledger::new();
+    let mut desk = EchoDesk::new(&rt, &ledger);
+    let mut held = Conversation::new(alloc);
+    let mut paths = None;
+    let mut writer = Device::new(Vec::new(alloc));
+    let (front, last) = QUERY.split_at(QUERY.len().min(34));
+    let (first, rest) = QUERY.split_at(QUERY.len().min(1));
+    assert!(rt; held.feed(front) == Ok(()) && held.front_len() == None);
+    let goes_on = answer_whole(alloc, &mut paths, &mut held, &mut writer, &mut desk);
+    assert!(rt; goes_on == Ok(true));
+    assert!(rt; held.feed(last) == Ok(()) && held.feed(first) == Ok(()));
+    assert!(rt; held.front_len() == Some(35));
+    let goes_on = answer_whole(alloc, &mut paths, &mut held, &mut writer, &mut desk);
+    assert!(rt; goes_on == Ok(true) && held.held_len() == 1);
+    let goes_on = take_piece(alloc, &mut paths, &mut held, rest, &mut writer, &mut desk);
+    assert!(rt; goes_on == Ok(true) && held.held_len() == 0);
+    let end = answer_rest(alloc, &mut paths, &mut held, &mut writer, &mut desk);
+    let written = writer.into_inner();
+    let (one, other) = written.as_slice().split_at(written.len() / 2);
+    assert!(rt; end == Ok(()) && one == ANSWER && other == ANSWER);
 }

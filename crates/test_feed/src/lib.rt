@@ -1,0 +1,5 @@
+//! Tests of feeds: what readers see of what is published.
+#![tactic(auto)]
+
+#[cfg(test)]
+mod feeds;
