@@ -1,4 +1,5 @@
 pub mod Fresh
+pub mod Fronts
 pub mod Learnt
 pub mod Plain
 pub mod Told

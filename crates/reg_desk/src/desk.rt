@@ -15,7 +15,7 @@ use reg_http::Desk;
 use reg_judge::Judge;
 use reg_leader::{Command, Reply};
 use reg_lookup::{Answer, Query};
-use reg_node::{Draw, Follower, Taken, View};
+use reg_node::{Draw, Follower, NodeView, Taken};
 use reg_pen::{Keep, Pass, Pen, Submitted};
 use reg_shared::Shared;
 use reg_topic::Item;
@@ -50,7 +50,7 @@ pub struct NodeDesk<
     wake: W,
     calls: &'a AtomicU64,
     pass: Pass<N>,
-    view: View<M, U>,
+    view: NodeView<M, U>,
     judge: Judge,
     seen: Option<Seen<Item, Shared, N>>,
     fresh: bool,
@@ -97,7 +97,7 @@ impl<
         wake: W,
         calls: &'a AtomicU64,
         pass: Pass<N>,
-        view: View<M, U>,
+        view: NodeView<M, U>,
         judge: Judge,
     ) -> NodeDesk<'a, N, S, K, M, U, R, G, W>
         ensures { result ≡ record { seen = None; view = view; submits = pass.submits; fresh = false; wake = wake } }

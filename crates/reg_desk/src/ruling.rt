@@ -6,7 +6,7 @@ use reg_fold::Registry;
 use reg_judge::Judge;
 use reg_leader::Command;
 use reg_levels::Judged;
-use reg_node::{Case, Draw, Taken, View};
+use reg_node::{Case, ShowsRegistry, View};
 
 /// A registration, and its judgement.
 #[derive(Drop)]
@@ -22,8 +22,8 @@ impl Ruling {
     /// Each registration is judged, also where its text is short: how long its check takes depends on what is
     /// live. Under a level that looks at one version this costs half as much again as a decision alone, but
     /// none of it while the pen is held.
-    pub fn of<M: FeedName<Draw, Taken>, U: Copies<Draw, Taken, M>>(
-        view: &mut View<M, U>,
+    pub fn of<T: Drop, V: ShowsRegistry<T> + Drop, N: FeedName<T, V>, S: Copies<T, V, N>>(
+        view: &mut View<T, V, N, S>,
         judge: &mut Judge,
         command: &Command,
     ) -> Option<Ruling>

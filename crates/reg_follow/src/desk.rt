@@ -1,13 +1,12 @@
 // The desk of a node that follows lines, of which each worker has one.
 ghost use Rattle.std.specs.Prelude.{◌≡◌};
 
-use reg_conversation::SharedDesk;
 use reg_feed::{Copies, FeedName, Seen};
-use reg_http::Desk;
 use reg_leader::{Command, Reply};
 use reg_lookup::{Answer, Query};
-use reg_node::{Draw, Taken, View};
+use reg_node::{Draw, NodeView, Taken};
 use reg_refusals::Refusal;
+use reg_serve::{Desk, SharedDesk};
 use std::alloc::{AllocError, Global};
 use std::marker::Model;
 
@@ -16,7 +15,7 @@ use std::marker::Model;
 /// Contracts see the front of the node's list that the view saw or was told of.
 #[derive(Drop)]
 pub struct FollowDesk<M: FeedName<Draw, Taken>, U: Copies<Draw, Taken, M>> {
-    view: View<M, U>,
+    view: NodeView<M, U>,
 }
 
 impl<M: FeedName<Draw, Taken>, U: Copies<Draw, Taken, M>> Model for FollowDesk<M, U> {
@@ -30,7 +29,7 @@ impl<M: FeedName<Draw, Taken>, U: Copies<Draw, Taken, M>> Model for FollowDesk<M
 
 impl<M: FeedName<Draw, Taken>, U: Copies<Draw, Taken, M>> FollowDesk<M, U> {
     /// A desk that answers from that view.
-    pub fn new(view: View<M, U>) -> FollowDesk<M, U>
+    pub fn new(view: NodeView<M, U>) -> FollowDesk<M, U>
         ensures { result ≡ view }
     {
         FollowDesk { view }

@@ -8,7 +8,7 @@ ghost use Rattle.reg_follow.specs.Following.{Adds, ComesTo, GoesOn, HasTaken, Is
 
 use reg_feed::{Copies, FeedName, FeedWriter, NoPlace};
 use reg_intake::{Came, GiveError, Incoming, IntakeError, Pieces};
-use reg_node::{Draw, Take, Taken, View};
+use reg_node::{Draw, NodeView, Take, Taken};
 use reg_records::Read;
 use std::alloc::{AllocError, Global};
 use std::marker::Model;
@@ -81,12 +81,12 @@ impl<M: FeedName<Draw, Taken>, U: Copies<Draw, Taken, M>, R: Wait + Drop> Intake
     }
 
     /// A view of the node. It may be refused at any call.
-    pub fn view(&mut self) -> Result<View<M, U>, NoPlace>
+    pub fn view(&mut self) -> Result<NodeView<M, U>, NoPlace>
         ensures new { IfOk result (λ v. v ≡ []) }
         ensures same { self.new ≡ self.old }
     {
         let reader = self.out.reader()?;
-        Ok(View::new(self.alloc, reader))
+        Ok(NodeView::new(self.alloc, reader))
     }
 
     /// Takes bytes that came behind those before. The only error is out of memory; all is then as it was.

@@ -7,11 +7,12 @@ use crate::desk::FollowDesk;
 use crate::ended::{FollowError, LinesEnd};
 use crate::intake::Intake;
 use crate::reading::follow_lines;
-use reg_connection::Limits;
 use reg_feed::{Copies, FeedName, Seen, Unnamed, feed};
 use reg_meters::Traffic;
-use reg_node::{Draw, Taken, View};
-use reg_serve::{Follow, Latch, NodeServer, StartError, begin, open_node};
+use reg_node::{Draw, NodeView, Taken};
+use reg_serve::{
+    Follow, Latch, Limits, NodeServer, Observe, StartError, begin, follow_list, open_node,
+};
 use std::alloc::Global;
 use std::io::{BufRead, Eprint};
 use std::marker::Brand;
@@ -64,6 +65,16 @@ struct Watching<'a> {
     traffic: &'a Traffic,
 }
 
+impl Observe for Watching<'_> {
+    fn traffic(&self) -> &Traffic {
+        self.traffic
+    }
+
+    fn thread_ended(&self) {
+        self.grown.unpark();
+    }
+}
+
 impl Follow for Watching<'_> {
     fn follow(&self) {}
 
@@ -73,10 +84,6 @@ impl Follow for Watching<'_> {
 
     fn grown(&self) -> &Parker {
         &self.grown
-    }
-
-    fn traffic(&self) -> &Traffic {
-        self.traffic
     }
 }
 
@@ -232,7 +239,7 @@ fn serve_views<
     alloc: Global,
     size: FollowSize,
     course: &Course,
-    views: Vec<View<M, U>>,
+    views: Vec<NodeView<M, U>>,
     traffic: &Traffic,
     endpoints: &mut G,
 ) -> Result<(), FollowError> {
@@ -271,7 +278,7 @@ fn serve_nodes<
     size: FollowSize,
     course: &'s Course,
     nodes: &'s [NodeServer<'s, Watching<'s>, Seen<Draw, Taken, M>>],
-    views: Vec<View<M, U>>,
+    views: Vec<NodeView<M, U>>,
     endpoints: &mut G,
 ) -> Result<(), FollowError> {
     let latch = Latch::new();
@@ -301,7 +308,7 @@ fn open_nodes<
     latch: &'s Latch,
     size: FollowSize,
     nodes: &'s [NodeServer<'s, Watching<'s>, Seen<Draw, Taken, M>>],
-    views: Vec<View<M, U>>,
+    views: Vec<NodeView<M, U>>,
 ) -> Result<(), StartError> {
     let mut views = views;
     let workers = u64::from(size.workers.clamp(1, WORKERS_LIMIT));
@@ -319,6 +326,7 @@ fn open_nodes<
             }
         }
         open_node(scope, rt, alloc, latch, node, desks, limit)?;
+        follow_list(scope, rt, latch, node)?;
     }
     Ok(())
 }

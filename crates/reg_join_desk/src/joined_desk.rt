@@ -20,7 +20,7 @@ use reg_join::JoinSubmitted;
 use reg_judge::Judge;
 use reg_leader::{Command, Reply};
 use reg_lookup::{Answer, Query};
-use reg_node::{Draw, Follower, Taken, View};
+use reg_node::{Draw, Follower, NodeView, Taken};
 use reg_pen::Pass;
 use reg_shared::Shared;
 use reg_topic::Item;
@@ -58,7 +58,7 @@ pub struct JoinedDesk<
     waits: &'a LogWaits,
     grown: &'a Parker,
     pass: Pass<N>,
-    view: View<M, U>,
+    view: NodeView<M, U>,
     judge: Judge,
     seen: Option<Seen<Item, Shared, N>>,
     fresh: bool,
@@ -102,7 +102,7 @@ impl<
         waits: &'a LogWaits,
         grown: &'a Parker,
         pass: Pass<N>,
-        view: View<M, U>,
+        view: NodeView<M, U>,
         judge: Judge,
     ) -> JoinedDesk<'a, N, S, C, M, U, R>
         ensures { result ≡ record { seen = None; view = view; submits = pass.submits; fresh = false; wake = tt } }

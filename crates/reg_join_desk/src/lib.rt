@@ -16,7 +16,7 @@ pub use joined_desk::JoinedDesk;
 pub use joined_pen::JoinedPen;
 pub use laws::joined_connections_read_their_writes;
 pub use log_waits::LogWaits;
-pub use reg_desk::{Follower, Pass, Pen, Standing, View};
+pub use reg_desk::{Follower, NodeView, Pass, Pen, Standing};
 pub use reg_join::{
     Chain, ChainAnswer, JoinKeep, JoinOutcome, JoinSubmitted, MemoryChain, Stand, TakenIn,
 };

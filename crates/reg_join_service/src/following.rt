@@ -8,7 +8,7 @@ use reg_join::TakenIn;
 use reg_join_desk::{JoinedPen, SharedCheck};
 use reg_meters::Traffic;
 use reg_node::{Draw, Follower, Taken};
-use reg_serve::Follow;
+use reg_serve::{Follow, Observe};
 use reg_shared::Shared;
 use reg_topic::Item;
 use std::sync::{Mutex, Wait};
@@ -114,6 +114,25 @@ impl<
     U: Copies<Draw, Taken, M>,
     R: Wait + Clock + Drop,
     E: JoinEndpoints,
+> Observe for Following<'a, N, S, C, M, U, R, E> {
+    fn traffic(&self) -> &Traffic {
+        self.common.endpoints.traffic()
+    }
+
+    fn thread_ended(&self) {
+        self.grown.unpark();
+    }
+}
+
+impl<
+    'a,
+    N: FeedName<Item, Shared>,
+    S: Copies<Item, Shared, N>,
+    C: Chain + Drop,
+    M: FeedName<Draw, Taken>,
+    U: Copies<Draw, Taken, M>,
+    R: Wait + Clock + Drop,
+    E: JoinEndpoints,
 > Follow for Following<'a, N, S, C, M, U, R, E> {
     fn follow(&self) {
         if self.is_first {
@@ -127,9 +146,5 @@ impl<
 
     fn grown(&self) -> &Parker {
         self.grown
-    }
-
-    fn traffic(&self) -> &Traffic {
-        self.common.endpoints.traffic()
     }
 }

@@ -6,14 +6,12 @@ use crate::error::JoinError;
 use crate::following::{Common, Following};
 use crate::size::JoinSize;
 use reg_chain::Chain;
-use reg_connection::Limits;
-use reg_desk::Standing;
 use reg_feed::{Copies, FeedName, Stored, Unnamed, feed};
-use reg_join_desk::{JoinedDesk, JoinedPen, LogWaits};
+use reg_join_desk::{JoinedDesk, JoinedPen, LogWaits, Standing};
 use reg_judge::Judge;
-use reg_node::{Draw, Follower, Taken, View};
+use reg_node::{Draw, Follower, NodeView, Taken};
 use reg_pen::Pass;
-use reg_serve::NodeServer;
+use reg_serve::{Limits, NodeServer};
 use reg_shared::Shared;
 use reg_topic::Item;
 use std::alloc::Global;
@@ -37,7 +35,7 @@ pub(crate) struct DeskParts<
     U: Copies<Draw, Taken, M>,
 > {
     pub(crate) passes: Vec<Pass<N>>,
-    pub(crate) views: Vec<View<M, U>>,
+    pub(crate) views: Vec<NodeView<M, U>>,
     pub(crate) keys: RandomState,
 }
 
@@ -82,7 +80,7 @@ pub(crate) fn begin_to_follow<
     follower: &mut Follower<N, S, M, U, R>,
     alloc: Global,
     count: usize,
-) -> Result<Vec<View<M, U>>, JoinError> {
+) -> Result<Vec<NodeView<M, U>>, JoinError> {
     // What was told before `ready` is there before the first request is.
     follower.pull()?;
     follower.publish()?;

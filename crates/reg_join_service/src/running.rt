@@ -8,11 +8,10 @@ use crate::size::JoinSize;
 use crate::taking::Taker;
 use reg_adapter_line::{AdapterLine, LineEnd};
 use reg_chain::Chain;
-use reg_conversation::SharedDesk;
 use reg_feed::{Copies, FeedName};
 use reg_join_desk::{JoinedPen, SharedCheck};
 use reg_node::{Draw, Follower, Taken};
-use reg_serve::{Follow, Latch, NodeServer, StartError, begin, open_node};
+use reg_serve::{Follow, Latch, NodeServer, SharedDesk, StartError, begin, follow_list, open_node};
 use reg_shared::Shared;
 use reg_topic::Item;
 use std::alloc::Global;
@@ -125,6 +124,7 @@ fn open_nodes<
             return Err(StartError);
         };
         open_node(scope, rt, alloc, latch, node, own, limit)?;
+        follow_list(scope, rt, latch, node)?;
     }
     Ok(())
 }

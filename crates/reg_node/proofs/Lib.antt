@@ -2,6 +2,5 @@ pub mod Begun
 pub mod Caught
 pub mod Drawn
 pub mod Lasts
-pub mod Matters
 pub mod Members
 pub mod Prefixes

@@ -11,8 +11,7 @@ ghost use Rattle.reg_set.specs.LastRecords.{last_records};
 
 use crate::laws::{draws_fold_to_last_records, followers_catch_up};
 use crate::news::{News, add_draws, read_news};
-use crate::take::{Draw, Taken};
-use crate::view::View;
+use crate::take::{Draw, NodeView, Taken};
 use reg_feed::{Copies, FeedName, FeedReader, FeedWriter, NoPlace, Seen};
 use reg_shared::Shared;
 use reg_topic::Item;
@@ -183,13 +182,13 @@ impl<
     }
 
     /// A view of the node. It may be refused at any call.
-    pub fn view(&mut self) -> Result<View<M, U>, NoPlace>
+    pub fn view(&mut self) -> Result<NodeView<M, U>, NoPlace>
         ensures new { IfOk result (λ v. v ≡ []) }
         ensures same { self.new ≡ self.old }
     {
         let alloc = *Box::allocator(&self.out);
         let reader = self.out.reader()?;
-        Ok(View::new(alloc, reader))
+        Ok(NodeView::new(alloc, reader))
     }
 }
 

@@ -5,12 +5,14 @@ ghost use Rattle.reg_floored.specs.Floors.{rebased};
 ghost use Rattle.reg_node.specs.Takes.{base_in};
 ghost use Rattle.reg_set.specs.LastRecords.{last_records};
 
+use crate::laws::draws_fold_to_last_records;
 use base_text::Listed;
 use reg_feed::{FeedName, Fold};
 use reg_floored::KeptSet;
-use reg_fold::Registry;
+use reg_fold::{Registry, giving_alike_is_an_equivalence};
 use reg_records::Record;
 use reg_set::{RecordSet, records_are_ordered};
+use reg_view::ShowsRegistry;
 use std::alloc::{AllocError, Global};
 use std::marker::{Brand, Model};
 
@@ -130,6 +132,34 @@ impl Fold<Draw> for Taken {
 
     fn again(&self) -> Result<Taken, AllocError> {
         self.clone()
+    }
+}
+
+/// What a node answers queries by.
+pub type NodeView<M, U> = reg_view::View<Draw, Taken, M, U>;
+
+/// A node's list begins with nothing, and comes to all that was taken.
+impl ShowsRegistry<Draw> for Taken {
+    ghost use Rattle.std.specs.FinSet.{empty};
+    ghost use Rattle.std.specs.Prelude.{◌≡◌};
+    ghost use Rattle.reg_set.specs.LastRecords.{last_records};
+    ghost use Rattle.reg_node.specs.Takes.{taken};
+
+    ghost shows = { λ lasts. lasts };
+
+    ghost begins = { λ first. first ≡ empty };
+
+    ghost comes_to = { λ first draws. taken draws };
+
+    ghost answers_for = { λ first draws. last_records (taken draws) };
+
+    fn registry(&self) -> &Registry {
+        self.registry()
+    }
+
+    fn folds_show() {
+        draws_fold_to_last_records();
+        giving_alike_is_an_equivalence();
     }
 }
 

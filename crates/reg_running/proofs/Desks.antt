@@ -6,7 +6,6 @@ use Rattle.reg_leader.specs.declared.command.Command.{Command}
 use Rattle.reg_leader.specs.declared.reply.Reply.{Reply}
 use Rattle.reg_topic.specs.declared.published.Item.{Item}
 use Rattle.reg_topic.specs.declared.topic.Topic.{Topic}
-use Rattle.reg_shared.specs.Held.{base_of}
 use Rattle.reg_pen.specs.Deletes.{floor_due}
 use Rattle.reg_pen.specs.Pen.{CompactsOrNot, IsPen, PenState}
 use Rattle.reg_pen.specs.declared.keep.Kept.{Kept}
@@ -23,10 +22,9 @@ then_acts {K} true base floor l m count some pen compacts = compactions_are_acts
 then_acts {K} false base floor l m count some pen same =
     ([], added_none count base l.published m.published (ap (λ (s : PenState K). s.published) same))
 
-pub desks_do_acts : {K W : Type 0} (keeps : K → List Record → Kept → K → Type 0) (wakes : W → List Item → W → Type 0) → DesksDoActs keeps wakes
-desks_do_acts keeps wakes first before after command reply count node there does =
-    let base = base_of first in
-    let s = does.written.submitted in
+pub desks_do_acts : {K : Type 0} (keeps : K → List Record → Kept → K → Type 0) → DesksDoActs keeps
+desks_do_acts keeps base before command reply front count node there written =
+    let s = written.submitted in
     let mid = s.done.submitted in
     let acts = submits_are_acts keeps base s.since s.old mid command reply count node there s.was s.done.submits in
     let pen = calls_keep_pens keeps base s.since s.old mid command reply 0 s.was (inl s.done.submits) in

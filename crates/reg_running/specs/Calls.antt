@@ -13,12 +13,12 @@ use Rattle.reg_leader.specs.declared.reply.Reply.TheVariants as replies
 use Rattle.reg_topic.specs.Topic.{IsLawful, after_items}
 use Rattle.reg_topic.specs.declared.published.Item.{Item}
 use Rattle.reg_topic.specs.declared.topic.Topic.{Topic}
-use Rattle.reg_shared.specs.Held.{Held, base_of}
+use Rattle.reg_shared.specs.Held.{Held}
 use Rattle.reg_pen.specs.Pen.{CompactsOrNot, IsDeclined, IsNoMemory, IsPen, PenState, Submits}
 use Rattle.reg_pen.specs.declared.keep.Kept.{Kept}
 use Rattle.reg_node.specs.Takes.{AreDrawnFrom, taken}
 use Rattle.reg_node.specs.declared.take.Draw.{Draw}
-use Rattle.reg_desk.specs.Desk.{DeskCommands, Known}
+use Rattle.reg_desk.specs.Desk.{IsWritten}
 use Rattle.reg_running.specs.Running.{Act, AreActs, Carried, Deed, Drew, IsRunningNode, Told, published, draws}
 
 -- these acts, done by a pen with so many nodes, made the one list the other
@@ -59,14 +59,14 @@ CompactionsAreActs K = (base : Topic) (floor : ℕ) (l m : PenState K) (count : 
     → CompactsOrNot base floor l m
     → (acts : List Act) × Added count base l.published m.published acts
 
--- a desk's command of a node: what was pending may be published by it, and then the command is carried out, with the reply that its client
--- got; then acts of the compaction that followed, if one did
-abbrev pub DesksDoActs : {K W : Type 0} → (K → List Record → Kept → K → Type 0) → (W → List Item → W → Type 0) → Type 0
-DesksDoActs {K} {W} keeps wakes = (first : Held) (before after : Known W) (command : Command) (reply : Reply) (count node : ℕ)
-    → node < count → (does : DeskCommands keeps wakes first before command reply after)
-    → (acts : List Act) × Added count (base_of first) does.written.submitted.old.published does.written.told acts
-    × IsToldOf keeps (base_of first) acts node does.written.told command reply
-    × ((more : List Act) × Added count (base_of first) does.written.told does.written.submitted.new.published more)
+-- a command that a desk submitted, of a node or over the topic's list: what was pending may be published by it, and then the command is
+-- carried out, with the reply that its client got; then acts of the compaction that followed, if one did
+abbrev pub DesksDoActs : {K : Type 0} → (K → List Record → Kept → K → Type 0) → Type 0
+DesksDoActs {K} keeps = (base : Topic) (before : Option (List Item)) (command : Command) (reply : Reply) (front : List Item) (count node : ℕ)
+    → node < count → (written : IsWritten keeps base before command reply front)
+    → (acts : List Act) × Added count base written.submitted.old.published written.told acts
+    × IsToldOf keeps base acts node written.told command reply
+    × ((more : List Act) × Added count base written.told written.submitted.new.published more)
 
 -- what a pen keeps stays so at each call, so it holds of each pen that was opened over an adopted base
 abbrev pub CallsKeepPens : {K : Type 0} → (K → List Record → Kept → K → Type 0) → Type 0

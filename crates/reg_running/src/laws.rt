@@ -6,13 +6,10 @@ ghost use Rattle.reg_running.specs.Claims.{ClaimsHoldAtEachMoment, MomentsAreAft
 ghost use Rattle.reg_running.specs.Woven.{RunningNodesAreAWorld, RunningNodesAreWoven};
 
 use reg_alike::compactions_answer_alike;
-use reg_desk::Wake;
-use reg_feed::FeedName;
 use reg_lookup::queries_have_one_answer;
 use reg_pen::Keep;
 use reg_set::records_are_ordered;
-use reg_shared::Shared;
-use reg_topic::{Item, lawful_lists_keep_ids, lawful_lists_meet_levels};
+use reg_topic::{lawful_lists_keep_ids, lawful_lists_meet_levels};
 use reg_world::{ids_name_one_schema, nodes_answer_alike, registered_versions_meet_levels};
 
 /// What the pen and the nodes did is a list of a world's events, with the outcomes that the callers
@@ -73,8 +70,8 @@ pub fn pens_do_acts<K: Keep>()
 
 /// What a desk's command adds to the topic's list are acts, of which its client got the reply, and then those of
 /// a compaction that followed.
-pub fn desks_do_acts<N: FeedName<Item, Shared>, K: Keep, W: Wake<N>>()
-    ensures { DesksDoActs K.keeps W.wakes }
+pub fn desks_do_acts<K: Keep>()
+    ensures { DesksDoActs K.keeps }
 {}
 
 /// The lists that acts publish are the lawful ones.

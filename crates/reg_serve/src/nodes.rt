@@ -1,4 +1,4 @@
-// Nodes: where each listens, its poller, its workers, and the thread that follows the topic.
+// Nodes: where each listens, its poller, its workers, and the thread that follows a list for it.
 ghost use Rattle.std.specs.Prelude.{true, IsOk, OnOk};
 
 use crate::latch::Latch;
@@ -20,27 +20,42 @@ use std::time::{Clock, Duration};
 /// How long a node's follower waits at most, in milliseconds.
 const FOLLOW_WITHIN: u64 = 50;
 
-/// Follows the topic for a node, and has the counters of its traffic. One thread of the node calls
-/// `follow` each time that `grown` was unparked, and 50 ms after its last call at the latest.
-pub trait Follow {
-    /// Brings what is new of the topic to the node.
+/// What the threads of a node tell.
+pub trait Observe {
+    /// Where the node's connections and requests are counted.
+    fn traffic(&self) -> &Traffic;
+
+    /// A worker of the node, or its poller, has ended.
+    fn thread_ended(&self);
+}
+
+/// Connections and requests are counted there, and nobody waits for the end of threads.
+impl Observe for &Traffic {
+    fn traffic(&self) -> &Traffic {
+        self
+    }
+
+    fn thread_ended(&self) {}
+}
+
+/// Follows a list for a node. One thread of the node calls `follow` each time that `grown` was unparked, and 50 ms after its last call
+/// at the latest. The end of the node's other threads has to unpark it.
+pub trait Follow: Observe {
+    /// Brings what is new of the list to the node.
     fn follow(&self);
 
     /// Whether the node is to end, though its clients go on. It is asked after each call of `follow`.
     fn is_over(&self) -> bool;
 
-    /// Whoever makes the topic grow unparks it; nobody else parks on it.
+    /// Whoever makes the list grow unparks it; nobody else parks on it.
     fn grown(&self) -> &Parker;
-
-    /// Where the node's connections and requests are counted.
-    fn traffic(&self) -> &Traffic;
 }
 
-/// A node: where it listens, who follows the topic for it, and what its poller and its workers share.
+/// A node: where it listens, what its threads tell, and what its poller and its workers share.
 #[derive(Drop)]
 pub struct NodeServer<'a, F: Drop, T: Drop> {
     listener: &'a TcpListener,
-    follower: F,
+    observer: F,
     workers: usize,
     limits: Limits,
     shared: SharedState<T>,
@@ -56,14 +71,14 @@ impl<'a, F: Drop, T: Drop> NodeServer<'a, F, T> {
         net: &impl Net,
         alloc: Global,
         listener: &'a TcpListener,
-        follower: F,
+        observer: F,
         workers: usize,
         limits: Limits,
     ) -> io::Result<NodeServer<'a, F, T>> {
         let (shared, poll) = SharedState::open(net, alloc, listener, limits.connections, workers)?;
         Ok(NodeServer {
             listener,
-            follower,
+            observer,
             workers,
             limits,
             shared,
@@ -83,17 +98,16 @@ impl From<AllocError> for StartError {
     }
 }
 
-/// Starts a node's threads, which wait at the latch: the poller, a worker for each desk, and the
-/// follower. The node ends once its follower says that it is over, and with a limit once so many of its
-/// connections were closed. Fails where a thread can't be made, or the memory that it begins with; those
-/// that were made still wait at the latch.
+/// Starts a node's threads, which wait at the latch: the poller, and a worker for each desk. With a limit the node ends once so many of its
+/// connections were closed. Fails where a thread can't be made, or the memory that it begins with; those that were made still wait at the
+/// latch.
 pub fn open_node<
     's,
     E,
     R: Threads + Wait + Clock + Sync + 's,
     T: Send + Drop + 's,
     D: SharedDesk<Standing = T> + Send + Drop + 's,
-    F: Follow + Sync + Drop + 's,
+    F: Observe + Sync + Drop + 's,
 >(
     scope: &Scope<'s, E>,
     rt: &'s R,
@@ -122,6 +136,17 @@ pub fn open_node<
     {
         return Err(StartError);
     }
+    Ok(())
+}
+
+/// Starts the thread of a node's follower, which waits at the latch, and ends once the node's other threads have ended. The node ends once
+/// its follower says that it is over. Fails where the thread can't be made.
+pub fn follow_list<'s, E, R: Wait + Sync + 's, T: Send + Drop + 's, F: Follow + Sync + Drop + 's>(
+    scope: &Scope<'s, E>,
+    rt: &'s R,
+    latch: &'s Latch,
+    node: &'s NodeServer<'s, F, T>,
+) -> Result<(), StartError> {
     if scope.spawn(move || follow_at(rt, latch, node)).is_err() {
         return Err(StartError);
     }
@@ -129,7 +154,7 @@ pub fn open_node<
 }
 
 /// What a worker's thread does.
-fn serve_at<R: Wait + Clock, D: SharedDesk + Drop, F: Follow + Drop>(
+fn serve_at<R: Wait + Clock, D: SharedDesk + Drop, F: Observe + Drop>(
     rt: &R,
     alloc: Global,
     latch: &Latch,
@@ -140,14 +165,14 @@ fn serve_at<R: Wait + Clock, D: SharedDesk + Drop, F: Follow + Drop>(
     let mut state = state;
     let mut desk = desk;
     if latch.pass(rt) {
-        let traffic = node.follower.traffic();
+        let traffic = node.observer.traffic();
         work(rt, alloc, &node.shared, traffic, &mut state, &mut desk);
     }
     leave_work(node);
 }
 
 /// What the poller's thread does.
-fn poll_at<R: Wait + Clock, T: Drop, F: Follow + Drop>(
+fn poll_at<R: Wait + Clock, T: Drop, F: Observe + Drop>(
     rt: &R,
     latch: &Latch,
     node: &NodeServer<'_, F, T>,
@@ -159,7 +184,7 @@ fn poll_at<R: Wait + Clock, T: Drop, F: Follow + Drop>(
     let mut events = events;
     if latch.pass(rt) {
         let mut poll = node.poll.lock(rt);
-        let traffic = node.follower.traffic();
+        let traffic = node.observer.traffic();
         poller.run(rt, &mut poll, &mut events, limit, traffic);
         node.shared.end(rt, node.workers);
     }
@@ -167,9 +192,9 @@ fn poll_at<R: Wait + Clock, T: Drop, F: Follow + Drop>(
 }
 
 /// A thread has ended.
-fn leave_work<T: Drop, F: Follow + Drop>(node: &NodeServer<'_, F, T>) {
+fn leave_work<T: Drop, F: Observe + Drop>(node: &NodeServer<'_, F, T>) {
     node.at_work.fetch_sub(1, Ordering::SeqCst);
-    node.follower.grown().unpark();
+    node.observer.thread_ended();
 }
 
 /// What a follower's thread does, until all others have ended.
@@ -186,9 +211,9 @@ fn follow_at<R: Wait, T: Drop, F: Follow + Drop>(
         if node.at_work.load(Ordering::SeqCst) == 0 {
             break;
         }
-        node.follower.grown().park_timeout(rt, within);
-        node.follower.follow();
-        if node.follower.is_over() {
+        node.observer.grown().park_timeout(rt, within);
+        node.observer.follow();
+        if node.observer.is_over() {
             node.shared.close();
         }
     }

@@ -1,6 +1,6 @@
 // Why nodes can't be started.
+use reg_desk::JudgeError;
 use reg_feed::NoPlace;
-use reg_judge::JudgeError;
 use reg_leader::AdoptError;
 use reg_pen::{Lack, OpenError};
 use reg_records::LogError;

@@ -1,20 +1,17 @@
-//! The nodes of the service: one topic, and for each listener a node with its follower, its desks and
-//! its workers.
+//! A log over sockets: its pen, one list, and for each port a poller, workers and their desks.
 #![tactic(auto)]
 
-mod common;
 mod endpoints;
 mod error;
-mod following;
 mod gate;
-mod making;
-mod nodes;
-mod parts;
-mod running;
+mod ports;
+mod serving;
 mod size;
 
 pub use endpoints::{Endpoints, Listening};
 pub use error::ServiceError;
 pub use gate::NoGate;
-pub use nodes::{NODES_LIMIT, serve_log, serve_nodes};
-pub use size::Size;
+pub use reg_desk::Gate;
+pub use reg_serve::listen;
+pub use serving::serve_log;
+pub use size::{NODES_LIMIT, Size};

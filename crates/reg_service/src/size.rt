@@ -1,4 +1,8 @@
 // How much is served.
+ghost use Rattle.std.specs.Prelude.{◌≤◌, ◌<◌, ◌^◌};
+
+/// The most nodes.
+pub const NODES_LIMIT: usize = 3;
 
 /// How many nodes there are, and what each serves.
 #[derive(Clone, Copy, Debug, PartialEq, Eq)]
@@ -9,4 +13,33 @@ pub struct Size {
     pub workers: u32,
     /// A node ends once as many times its workers of its connections were closed.
     pub limit: Option<u64>,
+}
+
+impl Size {
+    /// How many ports there are: one a node.
+    pub(crate) fn ports(self) -> usize
+        ensures { (1 ≤ result) × (result ≤ NODES_LIMIT) }
+    {
+        self.nodes.clamp(1, NODES_LIMIT)
+    }
+
+    /// How many workers a port has.
+    pub(crate) fn port_workers(self) -> u32
+        ensures { 1 ≤ result }
+    {
+        self.workers.max(1)
+    }
+
+    /// How many desks there are in all: one a worker.
+    pub(crate) fn desks(self) -> u32
+        ensures { 1 ≤ result }
+    {
+        self.port_workers().saturating_mul(self.ports() as u32)
+    }
+
+    /// After how many closed connections a port ends.
+    pub(crate) fn connections(self) -> Option<u64> {
+        let workers = u64::from(self.port_workers());
+        self.limit.map(|limit| limit.saturating_mul(workers))
+    }
 }

@@ -1,7 +1,6 @@
 // Nodes that serve until the program is stopped.
 use reg_meters::Traffic;
-use reg_serve::listen;
-use reg_service::{Endpoints, NoGate, ServiceError, Size, serve_nodes};
+use reg_node_service::{Endpoints, NoGate, ServiceError, Size, listen, serve_nodes};
 use std::alloc::Global;
 use std::io::{Eprint, Print};
 use std::net::{IpAddr, Ipv4Addr, Net, TcpListener, TcpStream};

@@ -4,7 +4,7 @@ use crate::hearing::CountedLines;
 use crate::place::Place;
 use crate::watching::SharedBoard;
 use reg_follow::{FollowEndpoints, FollowError, FollowSize, serve_lines};
-use reg_serve::listen;
+use reg_service::listen;
 use std::alloc::Global;
 use std::io::{self, BufReader, Eprint, Read};
 use std::net::{Net, TcpListener, TcpStream};

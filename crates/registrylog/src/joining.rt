@@ -3,7 +3,7 @@ use crate::place::Place;
 use crate::watching::SharedBoard;
 use reg_join_service::{JoinEndpoints, JoinError, JoinSize, RULES};
 use reg_meters::{Traffic, microseconds};
-use reg_serve::listen;
+use reg_service::listen;
 use std::alloc::Global;
 use std::io::{self, Eprint, Print, Write};
 use std::net::{Net, TcpListener, TcpStream};

@@ -1,0 +1,13 @@
+//! Nodes over one topic, each with a list of its own: a follower, desks and workers.
+#![tactic(auto)]
+
+mod common;
+mod following;
+mod making;
+mod nodes;
+mod parts;
+mod running;
+
+pub use nodes::serve_nodes;
+pub use reg_serve::listen;
+pub use reg_service::{Endpoints, NoGate, ServiceError, Size};

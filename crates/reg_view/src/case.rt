@@ -1,0 +1,81 @@
+// A registration that is to be judged.
+ghost use Rattle.std.specs.Prelude.{◌≡◌, ◌↔◌, true, IfErr, IfOk};
+ghost use Rattle.reg_levels.specs.Judgement.{IsMadeOf};
+ghost use Rattle.reg_levels.specs.JudgedError.{IsJudgedRefusal};
+ghost use Rattle.reg_view.specs.Judging.{against};
+
+use crate::against::Against;
+use base_text::Text;
+use reg_fold::Registry;
+use reg_judge::Judge;
+use reg_levels::{Judged, JudgedError};
+use std::alloc::{AllocError, Global};
+use std::marker::Model;
+
+/// A registration that is to be judged: its subject, its schema's normal text, and copies of what that
+/// is judged against.
+#[derive(Debug, Drop)]
+pub struct Case {
+    alloc: Global,
+    subject: Text,
+    new_text: Text,
+    against: Against,
+}
+
+impl Model for Case {
+    ghost use Rattle.reg_view.specs.Judging.{Matter};
+
+    ghost Value = { Matter };
+
+    ghost view = { λ c. record { subject = c.subject; new_text = c.new_text; standing = c.against } };
+}
+
+impl Case {
+    /// A case of these. Takes no memory.
+    pub(crate) fn of(alloc: Global, subject: Text, new_text: Text, against: Against) -> Case
+        ensures { result ≡ record { subject = subject; new_text = new_text; standing = against } }
+    {
+        Case {
+            alloc,
+            subject,
+            new_text,
+            against,
+        }
+    }
+
+    /// The judgement, by the judge where no text that counts is longer than 4,096 bytes, else without it. Refused
+    /// where a text is no schema's, the new one's fault first, or where memory is.
+    pub fn judged(&self, judge: &mut Judge) -> Result<Judged, JudgedError>
+        ensures made { IfOk result (λ j. IsMadeOf j self.now.standing.level self.now.new_text self.now.standing.olds) }
+        ensures refused { IfErr result (IsJudgedRefusal self.now.new_text self.now.standing.olds) }
+        ensures capacities { judge.new.capacities ≡ judge.old.capacities }
+    {
+        self.against.judged(self.alloc, &self.new_text, judge)
+    }
+
+    /// Whether it is the case of the same registration over a registry. The only error is out of memory.
+    pub fn stands(&self, registry: &Registry) -> Result<bool, AllocError>
+        ensures { IfOk result (λ yes. (yes ≡ true) ↔ (against registry.now self.now.subject ≡ self.now.standing)) }
+    {
+        self.against.stands(self.alloc, registry, &self.subject)
+    }
+
+    /// The case of the same registration over another registry. The only error is out of memory.
+    pub fn anew(self, registry: &Registry) -> Result<Case, AllocError>
+        ensures { IfOk result (λ case. case ≡ record self { standing = against registry.now self.subject }) }
+    {
+        let Case {
+            alloc,
+            subject,
+            new_text,
+            against: _,
+        } = self;
+        let against = Against::over(alloc, registry, &subject)?;
+        Ok(Case {
+            alloc,
+            subject,
+            new_text,
+            against,
+        })
+    }
+}

@@ -1,4 +1,0 @@
-// What a node's view judges.
-mod cases;
-mod judged;
-mod shown;
