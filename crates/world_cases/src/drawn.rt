@@ -2,10 +2,10 @@
 ghost use Rattle.std.specs.Prelude.{◌≡◌, ◌≤◌};
 ghost use Rattle.std.specs.FinSet.{empty};
 
-use crate::nodes::{Peer, make_node};
+use crate::nodes::{Node, Peer, make_node};
 use crate::topics::{Course, Place, Writing, go_through};
 use base_text::Listed;
-use reg_feed::{Copies, FeedName, Unnamed};
+use reg_feed::{Copies, FeedName, Stored, Unnamed};
 use reg_http::reply_answer;
 use reg_leader::Command;
 use reg_lookup::{Answer, Query};
@@ -208,9 +208,57 @@ fn with_nodes<
     requires three { (three.reached.book ≡ O.book) × (O.first ≡ empty) }
 {
     let mut first = make_node::<N, S, MemoryAlone, L, R>(drawing.alloc, place, one)?;
+    with_second::<N, S, Node<N, S, L, Stored<Draw, Taken, L>, R>, M, O, R>(
+        place, &mut first, two, three, drawing,
+    )
+}
+
+/// Makes the second node, and goes on with the third. Each is dropped by itself.
+fn with_second<
+    N: FeedName<Item, Shared>,
+    S: Copies<Item, Shared, N>,
+    A: Peer,
+    M: FeedName<Draw, Taken>,
+    O: FeedName<Draw, Taken>,
+    R: Wait + Drop + Copy,
+>(
+    place: &mut Writing<N, S, MemoryAlone, R>,
+    first: &mut A,
+    two: Unnamed<Draw>,
+    three: Unnamed<Draw>,
+    drawing: &mut Drawing,
+) -> Made<()>
+    requires two { (two.reached.book ≡ M.book) × (M.first ≡ empty) }
+    requires three { (three.reached.book ≡ O.book) × (O.first ≡ empty) }
+{
     let mut second = make_node::<N, S, MemoryAlone, M, R>(drawing.alloc, place, two)?;
+    with_third::<N, S, A, Node<N, S, M, Stored<Draw, Taken, M>, R>, O, R>(
+        place,
+        first,
+        &mut second,
+        three,
+        drawing,
+    )
+}
+
+fn with_third<
+    N: FeedName<Item, Shared>,
+    S: Copies<Item, Shared, N>,
+    A: Peer,
+    B: Peer,
+    O: FeedName<Draw, Taken>,
+    R: Wait + Drop + Copy,
+>(
+    place: &mut Writing<N, S, MemoryAlone, R>,
+    first: &mut A,
+    second: &mut B,
+    three: Unnamed<Draw>,
+    drawing: &mut Drawing,
+) -> Made<()>
+    requires three { (three.reached.book ≡ O.book) × (O.first ≡ empty) }
+{
     let mut third = make_node::<N, S, MemoryAlone, O, R>(drawing.alloc, place, three)?;
-    drawing.drive(place, &mut first, &mut second, &mut third)
+    drawing.drive(place, first, second, &mut third)
 }
 
 /// What comes of the topic of that number beside the world.
