@@ -44,6 +44,16 @@ impl<R: Clock + Drop> Script<R> {
         }
         Ok(true)
     }
+
+    /// Does what all marks say that come next.
+    fn pass_marks(&mut self) -> io::Result<()> {
+        for _mark in 0..self.bytes.len() {
+            if !self.pass_mark()? {
+                break;
+            }
+        }
+        Ok(())
+    }
 }
 
 impl<R: Clock + Drop> Read for Script<R> {
@@ -58,11 +68,7 @@ impl<R: Clock + Drop> Read for Script<R> {
 
 impl<R: Clock + Drop> BufRead for Script<R> {
     fn fill_buf(&mut self) -> io::Result<&[u8]> {
-        for _mark in 0..self.bytes.len() {
-            if !self.pass_mark()? {
-                break;
-            }
-        }
+        self.pass_marks()?;
         let left = self.bytes.as_slice().get(self.taken..).unwrap_or(&[]);
         let len = left.iter().position(|byte| *byte < 6).unwrap_or(left.len());
         Ok(left.get(..len).unwrap_or(&[]))
