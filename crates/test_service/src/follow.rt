@@ -56,6 +56,12 @@ impl<R: Clock + Drop> Script<R> {
     }
 }
 
+/// How many bytes come before the next mark.
+fn part_len(bytes: &[u8]) -> usize {
+    let found = bytes.iter().position(|byte| *byte < 6);
+    found.unwrap_or(bytes.len())
+}
+
 impl<R: Clock + Drop> Read for Script<R> {
     fn read(&mut self, buffer: &mut [u8]) -> io::Result<usize> {
         let available = self.fill_buf()?;
@@ -69,9 +75,10 @@ impl<R: Clock + Drop> Read for Script<R> {
 impl<R: Clock + Drop> BufRead for Script<R> {
     fn fill_buf(&mut self) -> io::Result<&[u8]> {
         self.pass_marks()?;
-        let left = self.bytes.as_slice().get(self.taken..).unwrap_or(&[]);
-        let len = left.iter().position(|byte| *byte < 6).unwrap_or(left.len());
-        Ok(left.get(..len).unwrap_or(&[]))
+        let end = self.bytes.len();
+        let from = self.taken.min(end);
+        let to = from.saturating_add(part_len(&self.bytes[from..])).min(end);
+        Ok(&self.bytes[from.min(to)..to])
     }
 
     fn consume(&mut self, amount: usize) {
