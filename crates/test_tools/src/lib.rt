@@ -19,6 +19,6 @@ pub use logs::{log_text, sorted_rows};
 pub use notation::{bytes_of, numbered_text, push_bytes, text_in};
 pub use schemas::{chain, doubling};
 pub use tally::{
-    CaseError, Made, Said, Tally, cut, deed_of, halves, is_remark, number_of, paragraphs_of, parted,
-    rows_of, small_of,
+    CaseError, Made, Said, Tally, cut, deed_of, halves, is_remark, number_of, paragraphs_of,
+    parted, rows_of, small_of,
 };
