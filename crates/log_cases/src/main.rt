@@ -10,11 +10,11 @@
 //! - `.messages`: `say TEXT`: an adapter's messages, given in pieces of each size, with a star at a foreign line, and how they end.
 //!   `base TEXT`: the same behind a base, after the base's next offset. `unended TEXT`: how two looks at a text end that goes on.
 //!   `request FIRST COUNT`: what asks for so many records of no operation.
-//! - `.metrics`: `page NAME`: the number of a line on a page of metrics. `stat TEXT`, `started TEXT`: what the system says. `words A & B`: the
-//!   words in what an adapter says, in these pieces. `request TEXT`: what is asked for, and the response.
-//! - `.replies`: paragraphs, each with numbers of its own. `batch SECOND WORD`, `check SECOND WORD`: a request that is answered 100
-//!   microseconds later. `ask SECOND`: a request for a batch. `hear SECOND DATE WORD`: a word. `batches`, `checks`: how often each answer
-//!   came. `last`: when a check was answered last. `away SECOND`: whether the store counts as away.
+//! - `.metrics`: `page NAME`: the number of a line on a page of metrics. `stat TEXT`, `started TEXT`: what the system says. `request TEXT`:
+//!   what is asked for, and the response. `stage WORDS`: how far a process is of which these are true.
+//! - `.replies`: paragraphs, each with numbers of its own. `batch SECOND ANSWER`, `check SECOND ANSWER`: a request that is answered 100
+//!   microseconds later. `ask SECOND`: a request for a batch. `hear SECOND DATE ANSWER`: an answer. `told`: others' batch. `batches`,
+//!   `checks`: how often each answer came. `last`: when a check was answered last. `away SECOND`: whether the store counts as away.
 //! - `.pages`: `family NAME`: the text of one of the families in `pages.rt`. `seconds MICROSECONDS`: how a page has that time.
 //! - `.bytes`: `compact LOG`, `order LOG`, `compact-to FLOOR LOG`, `order-to FLOOR LOG`: what is left of a log, in its place or in the order
 //!   of the offsets. `causes LOG`: why its records can't be read. `obstacles LOG`: what keeps it from being taken over.

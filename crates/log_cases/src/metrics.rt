@@ -1,12 +1,11 @@
-// Numbers on a page, what the system and an adapter say, and requests for pages.
+// Numbers on a page, what the system says, and requests for pages.
 use crate::form::{Came, Form, shown};
-use crate::replies::WORDS;
 use exposition::{Family, page_text};
 use reg_meters::{ConnectionTally, Ending, RequestClass, StatusClass, Traffic};
 use reg_metrics::{
-    AdapterMeters, AdapterWord, BatchMeters, Condition, FileMeters, LineMeters, PageRequest, Stage,
-    WordFinder, adapter_families, answer_to, asked_in, batch_families, file_families,
-    line_families, numbers_in, process_families, stage_families, started_in, traffic_families,
+    AdapterMeters, BatchMeters, Condition, FileMeters, LineMeters, PageRequest, Stage,
+    adapter_families, answer_to, asked_in, batch_families, file_families, line_families,
+    numbers_in, process_families, stage_families, started_in, traffic_families,
 };
 use std::alloc::Global;
 use test_tools::{CaseError, Made, bytes_of, cut};
@@ -132,41 +131,6 @@ fn start_in(alloc: Global, stat: &str) -> Made<String> {
     }
 }
 
-fn name_of(found: AdapterWord) -> &'static str {
-    for (name, word) in &WORDS {
-        if *word == found {
-            return *name;
-        }
-    }
-    ""
-}
-
-/// Adds the words in a piece of what an adapter says.
-fn add_words(words: &mut String, finder: &mut WordFinder, piece: &[u8]) -> Made<()> {
-    let mut rest = piece;
-    for _line in 0..piece.len() {
-        if rest.is_empty() {
-            break;
-        }
-        let (len, word) = finder.take(rest);
-        rest = rest.get(len..).unwrap_or(&[]);
-        if let Some(word) = word {
-            write!(words, "{}\n", name_of(word))?;
-        }
-    }
-    Ok(())
-}
-
-/// The words in what an adapter says, a line each.
-fn words_in(alloc: Global, pieces: &str) -> Made<String> {
-    let mut finder = WordFinder::new();
-    let mut words = String::new(alloc);
-    for piece in pieces.split(" & ") {
-        add_words(&mut words, &mut finder, &bytes_of(alloc, piece)?)?;
-    }
-    Ok(words)
-}
-
 /// What is asked for, and the response where a process is lost.
 fn response_to(alloc: Global, head: &[u8]) -> Came {
     let asked = asked_in(head);
@@ -215,7 +179,6 @@ impl Form for Metrics {
             "page" => Ok(String::from_str(alloc, number_on(self.page.as_str(), rest))?),
             "stat" => Ok(process_in(alloc, text.as_str())?),
             "started" => Ok(start_in(alloc, text.as_str())?),
-            "words" => shown(alloc, words_in(alloc, rest)?.as_bytes()),
             "request" => response_to(alloc, &bytes),
             "stage" => stage_of(alloc, rest),
             _ => Err(CaseError::NotUnderstood),

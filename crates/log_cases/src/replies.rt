@@ -1,25 +1,17 @@
 // What an adapter replies, and how that is counted.
 use crate::form::{Came, Form, try_lines};
-use reg_metrics::{AdapterMeters, AdapterReply, AdapterWord, BatchMeters};
+use reg_metrics::{AdapterMeters, AdapterReply, BatchMeters};
 use std::alloc::Global;
 use test_tools::{CaseError, Made, Said, Tally, cut, number_of, paragraphs_of};
 
-/// The words of an adapter.
-pub(crate) static WORDS: [(&str, AdapterWord); 5] = [
-    ("batch", AdapterWord::Batch),
-    ("kept", AdapterWord::Reply(AdapterReply::Kept)),
-    ("behind", AdapterWord::Reply(AdapterReply::Behind)),
-    ("declined", AdapterWord::Reply(AdapterReply::Declined)),
-    ("lost", AdapterWord::Reply(AdapterReply::Lost)),
-];
-
-fn word_in(text: &str) -> Said<AdapterWord> {
-    for (name, word) in &WORDS {
-        if *name == text {
-            return Ok(*word);
-        }
+fn reply_in(word: &str) -> Said<AdapterReply> {
+    match word {
+        "kept" => Ok(AdapterReply::Kept),
+        "behind" => Ok(AdapterReply::Behind),
+        "declined" => Ok(AdapterReply::Declined),
+        "lost" => Ok(AdapterReply::Lost),
+        _ => Err(CaseError::NotUnderstood),
     }
-    Err(CaseError::NotUnderstood)
 }
 
 /// So many seconds, in microseconds.
@@ -35,22 +27,22 @@ struct Replies {
 }
 
 impl Replies {
-    /// Asks for a check or for a batch, and hears a word 100 microseconds later.
+    /// Asks for a check or for a batch, and hears an answer 100 microseconds later.
     fn exchange(&self, is_check: bool, told: &str) -> Said<()> {
         let (second, word) = cut(told);
-        let (now, word) = (moment_in(second)?, word_in(word)?);
+        let (now, reply) = (moment_in(second)?, reply_in(word)?);
         self.adapter.ask(is_check, now);
         self.adapter
-            .hear(&self.batches, word, now.saturating_add(100), 7);
+            .hear_reply(&self.batches, reply, now.saturating_add(100), 7);
         Ok(())
     }
 
-    /// Hears a word at a second, which is so many microseconds since 1970.
+    /// Hears an answer at a second, which is so many microseconds since 1970.
     fn hear(&self, told: &str) -> Said<()> {
         let (second, rest) = cut(told);
         let (date, word) = cut(rest);
-        let (now, date, word) = (moment_in(second)?, number_of(date)?, word_in(word)?);
-        self.adapter.hear(&self.batches, word, now, date);
+        let (now, date, reply) = (moment_in(second)?, number_of(date)?, reply_in(word)?);
+        self.adapter.hear_reply(&self.batches, reply, now, date);
         Ok(())
     }
 
@@ -79,6 +71,7 @@ impl Form for Replies {
             "check" => self.exchange(true, rest)?,
             "ask" => self.adapter.ask(false, moment_in(rest)?),
             "hear" => self.hear(rest)?,
+            "told" => self.adapter.hear_batch(),
             "batches" => return Ok(self.batch_counts(alloc)?),
             "checks" => return Ok(self.check_counts(alloc)?),
             "last" => return Ok(format!(in alloc; "{}", self.adapter.last.value())?),

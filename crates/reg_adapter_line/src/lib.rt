@@ -10,6 +10,8 @@
 //! output <- send_requests <- AdapterLine <- AdapterChain::append
 //! ```
 //!
+//! Who counts what is said is told of each message and request by those two, through [`Overhear`]: nobody else reads what an adapter says.
+//!
 //! What each call does with the exchange is proved, and what a message is. That threads run, that what one puts in is what another takes out, and
 //! what the pipes carry is not: a lock says no more of its value than the value's type does.
 #![tactic(auto)]
@@ -18,6 +20,7 @@ mod chain;
 mod end;
 mod exchange;
 mod line;
+mod overhearing;
 mod reading;
 mod sending;
 mod told;
@@ -25,5 +28,6 @@ mod told;
 pub use chain::AdapterChain;
 pub use end::LineEnd;
 pub use line::AdapterLine;
+pub use overhearing::{AskedFor, Heard, Overhear};
 pub use reading::{read_messages, tell_all};
 pub use sending::send_requests;

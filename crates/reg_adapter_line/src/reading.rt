@@ -7,6 +7,7 @@ ghost use Rattle.reg_adapter_line.specs.Reading.{EndsAs, TakesPiece};
 
 use crate::end::LineEnd;
 use crate::line::{AGAIN, AdapterLine};
+use crate::overhearing::{Overhear, heard_in};
 use reg_adapter::{MessageError, Messages};
 use std::alloc::Global;
 use std::io::{BufRead, ErrorKind};
@@ -27,14 +28,15 @@ enum Piece {
     End(LineEnd),
 }
 
-/// Reads messages to the end of the input, and tells the line of each. It waits for nothing but the input, except that before `ready` it waits while
-/// 4,096 batches are due. Where memory is refused for a message it is told again, 20 ms later: none is lost. It returns once the line is over, and
-/// then a read at the latest.
-pub fn read_messages<B: BufRead, R: Wait + Clock>(
+/// Reads messages to the end of the input, and tells the line of each, which is overheard. It waits for nothing but the input, except that before
+/// `ready` it waits while 4,096 batches are due. Where memory is refused for a message it is told again, 20 ms later: none is lost. It returns
+/// once the line is over, and then a read at the latest.
+pub fn read_messages<B: BufRead, R: Wait + Clock, H: Overhear>(
     rt: &R,
     alloc: Global,
     reader: &mut B,
     line: &AdapterLine,
+    overhear: &H,
 ) {
     let mut messages = Messages::new(alloc);
     for _ in rt.forever() {
@@ -42,7 +44,7 @@ pub fn read_messages<B: BufRead, R: Wait + Clock>(
             break;
         }
         match take_piece(reader, &mut messages) {
-            Piece::Bytes => tell_all(rt, &mut messages, line),
+            Piece::Bytes => tell_all(rt, &mut messages, line, overhear),
             Piece::Nothing => {}
             Piece::OutOfMemory => thread::sleep(rt, Duration::from_millis(AGAIN)),
             Piece::End(end) => line.end_with(rt, end),
@@ -86,14 +88,22 @@ fn end_of(messages: &Messages) -> LineEnd
     }
 }
 
-/// Tells the line of each message that is whole.
-pub fn tell_all<R: Wait + Clock>(rt: &R, messages: &mut Messages, line: &AdapterLine) {
+/// Tells the line of each message that is whole, which is overheard before.
+pub fn tell_all<R: Wait + Clock, H: Overhear>(
+    rt: &R,
+    messages: &mut Messages,
+    line: &AdapterLine,
+    overhear: &H,
+) {
     for _ in rt.forever() {
         if line.is_over() {
             break;
         }
         match messages.next() {
-            Ok(Some(told)) => line.tell(rt, told),
+            Ok(Some(told)) => {
+                overhear.heard(heard_in(&told));
+                line.tell(rt, told);
+            }
             Ok(None) => break,
             Err(MessageError::OutOfMemory) => thread::sleep(rt, Duration::from_millis(AGAIN)),
             Err(error) => line.end_with(rt, LineEnd::Fault(error)),

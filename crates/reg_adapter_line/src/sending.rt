@@ -1,15 +1,23 @@
 // Requests as a writer takes them.
 use crate::end::LineEnd;
 use crate::line::AdapterLine;
+use crate::overhearing::{Overhear, asked_by};
 use std::io::{self, Write};
 use std::sync::Wait;
 
-/// Writes each request whole, one after the other, until the line is over. A fault of the writer ends the line.
-pub fn send_requests<W: Write, R: Wait>(rt: &R, writer: &mut W, line: &AdapterLine) {
+/// Writes each request whole, one after the other, until the line is over. Each is overheard before it is written. A fault of the writer ends
+/// the line.
+pub fn send_requests<W: Write, R: Wait, H: Overhear>(
+    rt: &R,
+    writer: &mut W,
+    line: &AdapterLine,
+    overhear: &H,
+) {
     for _ in rt.forever() {
         let Some(bytes) = line.wait_for_request(rt) else {
             break;
         };
+        overhear.asked(asked_by(&bytes));
         if let Err(error) = send(writer, &bytes) {
             line.end_with(rt, LineEnd::Output(error.kind()));
         }

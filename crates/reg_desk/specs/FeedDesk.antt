@@ -1,5 +1,5 @@
 -- What a desk over a feed does, from the front that was seen before to the one that is seen after.
-use Rattle.std.specs.Prelude.{◌≡◌, ◌⊎◌, ℕ, List, [], ◌∷◌, Option, Some, IfOk, IfSome, Result}
+use Rattle.std.specs.Prelude.{◌≡◌, ◌⊎◌, ℕ, List, [], ◌∷◌, Some, IfOk, Result}
 use Rattle.std.specs.List.{AllByRecursion}
 use Rattle.std.specs.declared.alloc.AllocError.{AllocError}
 use mathlib.Core.List.{IsPrefix}
@@ -7,11 +7,13 @@ use Rattle.reg_records.specs.declared.record.Record.{Record}
 use Rattle.reg_set.specs.LastRecords.{last_records}
 use Rattle.reg_set.specs.Records.{Records}
 use Rattle.reg_feed.specs.Published.{WasPublished}
+use Rattle.reg_refusals.specs.declared.refusal.Refusal.TheVariants as refusals
 use Rattle.reg_lookup.specs.Answers.{IsAnswer}
 use Rattle.reg_lookup.specs.declared.answered.Answer.{Answer}
 use Rattle.reg_lookup.specs.declared.query.Query.{Query}
 use Rattle.reg_leader.specs.declared.command.Command.{Command}
 use Rattle.reg_leader.specs.declared.reply.Reply.{Reply}
+use Rattle.reg_leader.specs.declared.reply.Reply.TheVariants as replies
 use Rattle.reg_topic.specs.declared.published.Item.{Item}
 use Rattle.reg_topic.specs.declared.topic.Topic.{Topic}
 use Rattle.reg_pen.specs.Pen.{counted}
@@ -43,17 +45,15 @@ pub record AsksFeed {T C : Type 0} (comes_to answers_for : List T → Records) (
   pub longer : IsPrefix before.front after.front
   pub same_commander : after.commander ≡ before.commander
 
--- a command is judged over a list that begins with all that was seen, and carried out after that list, once; what the commander told is
--- then what was seen, where that goes beyond the list
-pub record CommandsFeed {T C : Type 0} (carries : C → List T → Command → Reply → Option (List T) → C → Type 0) (before : Stands T C)
-    (c : Command) (reply : Reply) (after : Stands T C) : Type 0 where
-  pub judged : List T
-  pub judges : IsPrefix before.front judged
-  pub told : Option (List T)
-  pub carried : carries before.commander judged c reply told after.commander
-  pub one : (after.front ≡ judged) ⊎ (told ≡ Some after.front)
-  pub longer : IsPrefix judged after.front
-  pub shown : IfSome told (λ front. IsPrefix front after.front)
+-- a command is carried out by whoever has seen all that the desk had; the list that is then seen begins with that
+pub record CommandsFeed {T C : Type 0} (carries : C → List T → Command → Reply → List T → C → Type 0) (before : Stands T C) (c : Command)
+    (reply : Reply) (after : Stands T C) : Type 0 where
+  pub carried : carries before.commander before.front c reply after.front after.commander
+  pub longer : IsPrefix before.front after.front
+
+-- each command is refused, and nothing changes
+abbrev pub RefusesAll : {T C : Type 0} → C → List T → Command → Reply → List T → C → Type 0
+RefusesAll before since c reply front after = (reply ≡ replies.Refused refusals.FollowsLog) × (front ≡ since) × (after ≡ before)
 
 -- a turn of a connection: a desk learns of what the answer before stood on, and then does what it is called for
 pub record FeedTurn (T C : Type 0) : Type 0 where
@@ -63,7 +63,7 @@ pub record FeedTurn (T C : Type 0) : Type 0 where
   pub after : Stands T C
 
 module _ {T C : Type 0} (comes_to answers_for : List T → Records) (publishes : List T → Type 0)
-    (carries : C → List T → Command → Reply → Option (List T) → C → Type 0) where
+    (carries : C → List T → Command → Reply → List T → C → Type 0) where
   -- what a call of a desk does
   abbrev pub Serves : Stands T C → Call → Stands T C → Type 0
   Serves before (Ask query answer) after = AsksFeed comes_to answers_for publishes before query answer after
@@ -79,17 +79,12 @@ module _ {T C : Type 0} (comes_to answers_for : List T → Records) (publishes :
   ShowTheirWrites = (before : Stands T C) (call : Call) (done : Stands T C) (turns : List (FeedTurn T C))
       → Serves before call done → AreFeedTurns done.front turns → AllByRecursion (λ t. IsPrefix done.front t.after.front) turns
 
-module _ {K : Type 0} (keeps : K → List Record → Kept → K → Type 0) where
-  -- the pen was lent for the command, once, by whoever had seen that list, and tells the list after it, which begins with that one
-  pub record PenCarries (base : Topic) (before : ℕ) (since : List Item) (c : Command) (reply : Reply) (told : Option (List Item))
-      (after : ℕ) : Type 0 where
-    pub counts : after ≡ counted before
-    pub front : List Item
-    pub is_told : told ≡ Some front
-    pub written : IsWritten keeps base (Some since) c reply front
-    pub next : IsNext keeps base since c reply front
-
-  -- the list that a desk has seen after a command is the one that the command left: it wrote nothing, or the last item, or was refused
-  abbrev pub TellWhatIsWritten : Topic → Type 0
-  TellWhatIsWritten base = (before : Stands Item ℕ) (c : Command) (reply : Reply) (after : Stands Item ℕ)
-      → (done : CommandsFeed (PenCarries base) before c reply after) → IsNext keeps base done.judged c reply after.front
+-- a registration is judged over a list that begins with all that was seen; then the pen is lent for the command, once; the list that is seen
+-- then is the one that the command left: it wrote nothing, or the last item, or was refused
+pub record PenCarries {K : Type 0} (keeps : K → List Record → Kept → K → Type 0) (base : Topic) (before : ℕ) (since : List Item) (c : Command)
+    (reply : Reply) (front : List Item) (after : ℕ) : Type 0 where
+  pub counts : after ≡ counted before
+  pub judged : List Item
+  pub judges : IsPrefix since judged
+  pub written : IsWritten keeps base (Some judged) c reply front
+  pub next : IsNext keeps base judged c reply front

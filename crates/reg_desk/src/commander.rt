@@ -1,33 +1,29 @@
 // Who carries out the commands of a desk over a feed.
-use crate::ruling::Ruling;
-use reg_feed::{FeedName, Fold, Seen};
-use reg_judge::Judge;
+ghost use mathlib.Core.List.{IsPrefix};
+
+use reg_feed::{Copies, FeedName};
 use reg_leader::{Command, Reply};
+use reg_lookup::{Answer, Query};
+use reg_node::{ShowsRegistry, View};
 
-/// What came of a command: the reply, and a front of the list that shows all that was written with it, if one was told.
-#[derive(Drop)]
-pub struct Carried<T: Drop, V: Fold<T> + Drop, N: FeedName<T, V>> {
-    pub reply: Reply,
-    pub front: Option<Seen<T, V, N>>,
-}
-
-/// Who carries out commands on what a feed shows, or refuses them.
-pub trait Commander<T: Drop, V: Fold<T> + Drop, N: FeedName<T, V>> {
-    ghost use Rattle.std.specs.Prelude.{List, Option};
+/// Who carries out the commands of a desk over a feed, or refuses them, and knows whether the feed is behind.
+pub trait Commander<T: Drop, V: ShowsRegistry<T> + Drop, N: FeedName<T, V>> {
+    ghost use Rattle.std.specs.Prelude.{List};
     ghost use Rattle.reg_leader.specs.declared.command.Command.{Command};
     ghost use Rattle.reg_leader.specs.declared.reply.Reply.{Reply};
 
-    // Its state before, the front that whoever asks has seen, the command, the reply, the front that was told, its state after.
-    ghost carries: { Self → List T → Command → Reply → Option (List T) → Self → Type 0 };
+    // Its state and the front that the view had seen before, the command, the reply, the front that the view has seen after, its state after.
+    ghost carries: { Self → List T → Command → Reply → List T → Self → Type 0 };
 
-    /// Carries out a command, once, or refuses it. `since` is the front that whoever asks has seen; a registration was judged over it,
-    /// where there is a ruling, and may be judged again by the judge.
-    fn carry_out(
+    /// Carries out a command, once, or refuses it. The view then shows what came of it.
+    fn carry_out<S: Copies<T, V, N>>(
         &mut self,
-        since: &Seen<T, V, N>,
+        view: &mut View<T, V, N, S>,
         command: &Command,
-        ruling: Option<Ruling>,
-        judge: &mut Judge,
-    ) -> Carried<T, V, N>
-        ensures { carries self.old since.now command.now result.reply result.front self.new };
+    ) -> Reply
+        ensures carried { carries self.old view.old command.now result view.new self.new }
+        ensures longer { IsPrefix view.old view.new };
+
+    /// Whether the feed may show more by now of what the query asks for, so that another look is worth it. It may wait for that.
+    fn has_news(&self, query: &Query, answer: &Answer) -> bool;
 }

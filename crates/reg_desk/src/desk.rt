@@ -5,9 +5,9 @@ ghost use Rattle.reg_desk.specs.Desk.{IsFresh, front_of};
 
 use crate::catching::catch_up;
 use crate::gate::{Gate, pass_gate};
+use crate::pen_handle::PenHandle;
 use crate::ruling::Ruling;
 use crate::standing::Standing;
-use crate::submitting::submit;
 use crate::wake::Wake;
 use reg_conversation::SharedDesk;
 use reg_feed::{Copies, FeedName, Seen};
@@ -44,12 +44,11 @@ pub struct NodeDesk<
     W: Wake<N> + Drop,
 > {
     rt: &'a R,
-    pen: &'a Mutex<Pen<N, S, K, R>>,
+    pen: PenHandle<'a, N, S, K, R>,
     follower: &'a Mutex<Follower<N, S, M, U, R>>,
     gate: &'a G,
     wake: W,
     calls: &'a AtomicU64,
-    pass: Pass<N>,
     view: NodeView<M, U>,
     judge: Judge,
     seen: Option<Seen<Item, Shared, N>>,
@@ -72,7 +71,7 @@ impl<
 
     ghost Value = { Known W };
 
-    ghost view = { λ d. record { seen = d.seen; view = d.view; submits = d.pass.submits; fresh = d.fresh; wake = d.wake } };
+    ghost view = { λ d. record { seen = d.seen; view = d.view; submits = d.pen; fresh = d.fresh; wake = d.wake } };
 
     ghost invariant = { λ d. d.fresh ≡ true → IsFresh N.first (front_of d.seen) d.view };
 }
@@ -104,12 +103,11 @@ impl<
     {
         NodeDesk {
             rt,
-            pen,
+            pen: PenHandle::new(rt, pen, pass),
             follower,
             gate,
             wake,
             calls,
-            pass,
             view,
             judge,
             seen: None,
@@ -136,7 +134,7 @@ impl<
     pub fn submits(&self) -> u64
         ensures { result ≡ self.now.submits }
     {
-        self.pass.submits()
+        self.pen.submits()
     }
 }
 
@@ -165,15 +163,9 @@ impl<
     fn command(&mut self, command: &Command) -> Reply {
         pass_gate(self.gate, self.calls);
         let ruling = Ruling::of(&mut self.view, &mut self.judge, command);
-        let Submitted { reply, seen } = submit(
-            self.rt,
-            self.pen,
-            &mut self.pass,
-            &self.seen,
-            command,
-            ruling,
-            &mut self.judge,
-        );
+        let Submitted { reply, seen } = self
+            .pen
+            .submit_from(&self.seen, command, ruling, &mut self.judge);
         self.wake.topic_grew(&seen);
         self.fresh = catch_up(self.rt, self.follower, &mut self.view, &seen);
         self.seen = Some(seen);

@@ -1,51 +1,39 @@
 // A desk over a feed, of which each worker has one for all its connections.
-ghost use Rattle.std.specs.Prelude.{◌≡◌, ◌⊎◌, IfSome, Some};
-ghost use mathlib.Core.List.{IsPrefix};
+ghost use Rattle.std.specs.Prelude.{◌≡◌};
 
-use crate::commander::{Carried, Commander};
-use crate::gate::{Gate, pass_gate};
-use crate::ruling::Ruling;
+use crate::commander::Commander;
 use reg_conversation::SharedDesk;
 use reg_feed::{Copies, FeedName, Seen};
 use reg_http::Desk;
-use reg_judge::Judge;
 use reg_leader::{Command, Reply};
 use reg_lookup::{Answer, Query};
 use reg_node::{ShowsRegistry, View};
 use std::alloc::{AllocError, Global};
 use std::marker::Model;
-use std::sync::atomic::AtomicU64;
 
-/// A desk that answers queries from what a feed shows. A registration is judged by what the feed shows; then the command goes to the
-/// commander, once; and the front that it told is what the next answers stand on, at least.
+/// A desk that answers queries from what a feed shows, and has commands carried out. The front that it has seen then is what the next
+/// answers stand on, at least.
 ///
 /// Contracts see the front of the feed's list that was seen or told of, and the commander.
 #[derive(Drop)]
 pub struct FeedDesk<
-    'a,
     T: Drop,
     V: ShowsRegistry<T> + Drop,
     N: FeedName<T, V>,
     S: Copies<T, V, N>,
     C: Commander<T, V, N> + Drop,
-    G: Gate,
 > {
-    gate: &'a G,
-    calls: &'a AtomicU64,
     commander: C,
     view: View<T, V, N, S>,
-    judge: Judge,
 }
 
 impl<
-    'a,
     T: Drop,
     V: ShowsRegistry<T> + Drop,
     N: FeedName<T, V>,
     S: Copies<T, V, N>,
     C: Commander<T, V, N> + Drop,
-    G: Gate,
-> Model for FeedDesk<'a, T, V, N, S, C, G> {
+> Model for FeedDesk<T, V, N, S, C> {
     ghost use Rattle.reg_desk.specs.FeedDesk.{Stands};
 
     ghost Value = { Stands T C };
@@ -54,75 +42,54 @@ impl<
 }
 
 impl<
-    'a,
     T: Drop,
     V: ShowsRegistry<T> + Drop,
     N: FeedName<T, V>,
     S: Copies<T, V, N>,
     C: Commander<T, V, N> + Drop,
-    G: Gate,
-> FeedDesk<'a, T, V, N, S, C, G> {
+> FeedDesk<T, V, N, S, C> {
     /// A desk that has done no command.
-    pub fn new(
-        gate: &'a G,
-        calls: &'a AtomicU64,
-        commander: C,
-        view: View<T, V, N, S>,
-        judge: Judge,
-    ) -> FeedDesk<'a, T, V, N, S, C, G>
+    pub fn new(commander: C, view: View<T, V, N, S>) -> FeedDesk<T, V, N, S, C>
         ensures { result ≡ record { front = view; commander = commander } }
     {
-        FeedDesk {
-            gate,
-            calls,
-            commander,
-            view,
-            judge,
-        }
+        FeedDesk { commander, view }
     }
 }
 
 impl<
-    'a,
     T: Drop,
     V: ShowsRegistry<T> + Drop,
     N: FeedName<T, V>,
     S: Copies<T, V, N>,
     C: Commander<T, V, N> + Drop,
-    G: Gate,
-> Desk for FeedDesk<'a, T, V, N, S, C, G> {
+> Desk for FeedDesk<T, V, N, S, C> {
     ghost use Rattle.reg_desk.specs.FeedDesk.{AsksFeed, CommandsFeed};
 
     ghost asks = { AsksFeed (V.comes_to N.first) (V.answers_for N.first) (V.publishes N.first) };
 
     ghost commands = { CommandsFeed C.carries };
 
+    // A second look begins with all that the first one saw.
     fn ask(&mut self, alloc: Global, query: &Query) -> Result<Answer, AllocError> {
-        pass_gate(self.gate, self.calls);
-        self.view.lookup(alloc, query)
+        let answer = self.view.lookup(alloc, query)?;
+        if self.commander.has_news(query, &answer) {
+            return self.view.lookup(alloc, query);
+        }
+        Ok(answer)
     }
 
-    #[tactic(auto, using(crate::proofs::Fronts::commands_feed))]
     fn command(&mut self, command: &Command) -> Reply {
-        pass_gate(self.gate, self.calls);
-        let ruling = Ruling::of(&mut self.view, &mut self.judge, command);
-        let Carried { reply, front } = self
-            .commander
-            .carry_out(self.view.seen(), command, ruling, &mut self.judge);
-        learn_told(&mut self.view, &front);
-        reply
+        self.commander.carry_out(&mut self.view, command)
     }
 }
 
 impl<
-    'a,
     T: Drop,
     V: ShowsRegistry<T> + Drop,
     N: FeedName<T, V>,
     S: Copies<T, V, N>,
     C: Commander<T, V, N> + Drop,
-    G: Gate,
-> SharedDesk for FeedDesk<'a, T, V, N, S, C, G> {
+> SharedDesk for FeedDesk<T, V, N, S, C> {
     type Standing = Seen<T, V, N>;
 
     ghost use Rattle.reg_desk.specs.FeedDesk.{LearnsFront, StandsOnFront};
@@ -137,20 +104,5 @@ impl<
 
     fn learn(&mut self, standing: &Seen<T, V, N>) {
         self.view.learn(standing);
-    }
-}
-
-/// The view learns of the front that was told, if one was.
-#[tactic(auto, using(crate::proofs::Fresh::prefix_self))]
-fn learn_told<T: Drop, V: ShowsRegistry<T> + Drop, N: FeedName<T, V>, S: Copies<T, V, N>>(
-    view: &mut View<T, V, N, S>,
-    front: &Option<Seen<T, V, N>>,
-)
-    ensures one { (view.new ≡ view.old) ⊎ (front.now ≡ Some view.new) }
-    ensures longer { IsPrefix view.old view.new }
-    ensures shown { IfSome front.now (λ told. IsPrefix told view.new) }
-{
-    if let Some(front) = front {
-        view.learn(front);
     }
 }

@@ -1,7 +1,6 @@
 // Laws of connections that go from desk to desk. What is proved here costs nothing at run time.
-ghost use Rattle.reg_topic.specs.declared.topic.Topic.{Topic};
 ghost use Rattle.reg_desk.specs.Desk.{CallsKeepFresh, LearningKeepsFresh, ReadTheirWrites};
-ghost use Rattle.reg_desk.specs.FeedDesk.{ShowTheirWrites, TellWhatIsWritten};
+ghost use Rattle.reg_desk.specs.FeedDesk.{ShowTheirWrites};
 ghost use Rattle.reg_shared.specs.Held.{Held};
 
 use crate::commander::Commander;
@@ -12,8 +11,8 @@ use reg_pen::Keep;
 use reg_shared::Shared;
 use reg_topic::Item;
 
-/// Whatever front a command was told, or saw, at a desk over a feed: whichever desks over that feed serve the connection from then on, and
-/// however many turns there are, each answer stands on a list that begins with it.
+/// What a desk over a feed had seen once it was called: whichever desks over that feed serve the connection from then on, and however many
+/// turns there are, each answer stands on a list that begins with it. What a command wrote is seen then.
 pub fn feed_connections_read_their_writes<
     T: Drop,
     V: ShowsRegistry<T> + Drop,
@@ -21,11 +20,6 @@ pub fn feed_connections_read_their_writes<
     C: Commander<T, V, N>,
 >()
     ensures { ShowTheirWrites (V.comes_to N.first) (V.answers_for N.first) (V.publishes N.first) C.carries }
-{}
-
-/// Where a pen carries out commands, a desk has seen, after a command, the pen's list as the command left it: what it wrote is the last item.
-pub fn pens_tell_what_is_written<K: Keep>()
-    ensures { (base : Topic) → TellWhatIsWritten K.keeps base }
 {}
 
 /// Whoever is told on a connection that something was written reads it on that connection from then on,

@@ -1,19 +1,23 @@
 // The pen of a log as the commander of desks.
 ghost use Rattle.std.specs.Prelude.{◌≡◌};
 
-use crate::commander::{Carried, Commander};
+use crate::commander::Commander;
+use crate::pen_handle::PenHandle;
 use crate::ruling::Ruling;
-use crate::submitting::submit;
-use reg_feed::{Copies, FeedName, Seen};
+use reg_feed::{Copies, FeedName};
 use reg_judge::Judge;
-use reg_leader::Command;
+use reg_leader::{Command, Reply};
+use reg_lookup::{Answer, Query};
+use reg_node::View;
 use reg_pen::{Keep, Pass, Pen, Submitted};
 use reg_shared::Shared;
 use reg_topic::Item;
 use std::marker::Model;
 use std::sync::{Mutex, Wait};
 
-/// Submits commands to the pen of a log, which other desks submit to as well. Contracts see how many it has submitted.
+/// Submits commands to the pen of a log, which other desks submit to as well. A registration is judged by what the view shows before.
+///
+/// Contracts see how many commands it has submitted.
 #[derive(Drop)]
 pub struct PenCommander<
     'a,
@@ -22,9 +26,8 @@ pub struct PenCommander<
     K: Keep + Drop,
     R: Wait + Drop,
 > {
-    rt: &'a R,
-    pen: &'a Mutex<Pen<N, S, K, R>>,
-    pass: Pass<N>,
+    pen: PenHandle<'a, N, S, K, R>,
+    judge: Judge,
 }
 
 impl<
@@ -38,7 +41,7 @@ impl<
 
     ghost Value = { ℕ };
 
-    ghost view = { λ c. c.pass.submits };
+    ghost view = { λ c. c.pen };
 }
 
 impl<
@@ -48,15 +51,19 @@ impl<
     K: Keep + Drop,
     R: Wait + Drop,
 > PenCommander<'a, N, S, K, R> {
-    /// What submits to that pen by that pass.
+    /// What submits to that pen by that pass, and judges registrations by that judge.
     pub fn new(
         rt: &'a R,
         pen: &'a Mutex<Pen<N, S, K, R>>,
         pass: Pass<N>,
+        judge: Judge,
     ) -> PenCommander<'a, N, S, K, R>
         ensures { result ≡ pass.submits }
     {
-        PenCommander { rt, pen, pass }
+        PenCommander {
+            pen: PenHandle::new(rt, pen, pass),
+            judge,
+        }
     }
 }
 
@@ -73,26 +80,22 @@ impl<
     ghost carries = { PenCarries K.keeps (base_of N.first) };
 
     #[tactic(auto, using(crate::proofs::Fronts::pen_carries))]
-    fn carry_out(
+    fn carry_out<U: Copies<Item, Shared, N>>(
         &mut self,
-        since: &Seen<Item, Shared, N>,
+        view: &mut View<Item, Shared, N, U>,
         command: &Command,
-        ruling: Option<Ruling>,
-        judge: &mut Judge,
-    ) -> Carried<Item, Shared, N> {
-        let since = Some(since.again());
-        let Submitted { reply, seen } = submit(
-            self.rt,
-            self.pen,
-            &mut self.pass,
-            &since,
-            command,
-            ruling,
-            judge,
-        );
-        Carried {
-            reply,
-            front: Some(seen),
-        }
+    ) -> Reply {
+        let ruling = Ruling::of(view, &mut self.judge, command);
+        let since = Some(view.seen().again());
+        let Submitted { reply, seen } = self
+            .pen
+            .submit_from(&since, command, ruling, &mut self.judge);
+        view.learn(&seen);
+        reply
+    }
+
+    // What is written is shown before it is replied to, and nobody else writes.
+    fn has_news(&self, _query: &Query, _answer: &Answer) -> bool {
+        false
     }
 }

@@ -1,6 +1,7 @@
--- What nodes that follow lines have of them.
-use Rattle.std.proofs.Common.{◌≡◌, ◌≤◌, ◌||◌, ℕ, Bool, true, false, List, [], ◌∷◌, ◌++◌}
-use Rattle.std.proofs.Common.{length, take, fold, refl, sym, ap, ◌∙◌, arith, length-append}
+-- What those who follow lines have of them.
+use Rattle.std.proofs.Common.{◌≡◌, ◌≤◌, ◌||◌, ℕ, Bool, true, false, List, [], ◌∷◌, ◌++◌, Result, IfOk}
+use Rattle.std.proofs.Common.{length, take, fold, refl, sym, ap, subst, ◌∙◌, arith, length-append}
+use Rattle.std.specs.declared.alloc.AllocError.{AllocError}
 use Rattle.std.specs.Cmp.{IsTotalOrder}
 use Rattle.std.specs.FinSet.{IsAntisymmetric, contains, contains-empty, contains-from_list}
 use Rattle.std.specs.FinSet.{contains-insert, empty, from_list, insert, same_set}
@@ -10,11 +11,16 @@ use mathlib.Core.List.{IsPrefix}
 use Rattle.reg_records.specs.Log.{records_in}
 use Rattle.reg_records.specs.declared.record.Read.{Read}
 use Rattle.reg_records.specs.declared.record.Record.{Record}
+use Rattle.reg_set.specs.LastRecords.{last_records}
 use Rattle.reg_set.specs.RecordOrder.{record_cmp}
 use Rattle.reg_set.specs.Records.{Records}
+use Rattle.reg_lookup.specs.Answers.{IsAnswer}
+use Rattle.reg_lookup.specs.declared.answered.Answer.{Answer}
+use Rattle.reg_lookup.specs.declared.query.Query.{Query}
 use Rattle.reg_node.specs.Takes.{taken, takes_of, with_draw}
 use Rattle.reg_node.specs.declared.take.Draw.{Draw}
 use Rattle.reg_node.specs.declared.take.Draw.TheVariants as draws
+use Rattle.reg_desk.specs.FeedDesk.{AsksFeed, Stands}
 use Rattle.reg_intake.specs.Intake.{FirstRecordsAreOfFirstLines, records_of_first}
 use Rattle.reg_follow.specs.Following.{AnswersAreOfFirstLines, IsOfFirst, draws_of}
 
@@ -72,9 +78,22 @@ module _ (order : IsTotalOrder record_cmp) (apart : IsAntisymmetric record_cmp) 
         let found = law read n (length after) of_first.0 below most in
         (found.0, found.1, (found.2, first ∙ ap (takes_of 0) found.3))
 
-    pub answers : AnswersAreOfFirstLines read list
-    answers = record {
-      begins = (omega arith, refl);
-      later = later;
-      answers = λ n front of_first. ap taken of_first.1 ∙ taken_records (records_of_first n read);
-    }
+    comes_to : (n : ℕ) (front : List Draw) → IsOfFirst read n front → taken front ≡ from_list (records_of_first n read)
+    comes_to n front of_first = ap taken of_first.1 ∙ taken_records (records_of_first n read)
+
+    answered : {C : Type 0} (n : ℕ) (before : Stands Draw C) (q : Query) (a : Result Answer AllocError) (after : Stands Draw C)
+        → IsOfFirst read n before.front
+        → AsksFeed taken (λ (front : List Draw). last_records (taken front)) (λ (front : List Draw). Unit {0}) before q a after
+        → IsPrefix after.front list
+        → (m : ℕ) × (n ≤ m) × IsOfFirst read m after.front × IfOk a (IsAnswer (last_records (from_list (records_of_first m read))) q)
+    answered n before q a after of_first asks ends =
+        let found = later n before.front after.front of_first asks.longer ends in (
+          found.0,
+          found.1,
+          found.2,
+          subst (λ (rs : Records). IfOk a (IsAnswer (last_records rs) q)) (comes_to found.0 after.front found.2) asks.answered,
+        )
+
+    pub answers : {C : Type 0} → AnswersAreOfFirstLines
+        (AsksFeed {C = C} taken (λ (front : List Draw). last_records (taken front)) (λ (front : List Draw). Unit {0})) read list
+    answers = record { begins = (omega arith, refl); later = later; comes_to = comes_to; answers = answered }

@@ -1,5 +1,5 @@
 -- What a node has of the lines of a log that it follows.
-use Rattle.std.specs.Prelude.{◌≡◌, ◌≢◌, ◌⊎◌, ◌<◌, ◌≤◌, ⊤, ℕ, List, [], ◌∷◌, ◌++◌, Bool, length}
+use Rattle.std.specs.Prelude.{◌≡◌, ◌≢◌, ◌<◌, ◌≤◌, ⊤, ℕ, List, [], ◌∷◌, ◌++◌, Bool, length}
 use Rattle.std.specs.Prelude.{IfOk, OnSome, Option, Some, None, Result, option_to_list}
 use Rattle.std.specs.declared.alloc.AllocError.{AllocError}
 use Rattle.std.specs.declared.io.ErrorKind.{ErrorKind}
@@ -13,15 +13,12 @@ use Rattle.reg_records.specs.Log.{record_in, records_in}
 use Rattle.reg_records.specs.Pieces.{HasNoLineFeed}
 use Rattle.reg_records.specs.declared.record.Read.{Read}
 use Rattle.reg_set.specs.LastRecords.{last_records}
-use Rattle.reg_refusals.specs.declared.refusal.Refusal.TheVariants.{FollowsLog}
 use Rattle.reg_lookup.specs.Answers.{IsAnswer}
 use Rattle.reg_lookup.specs.declared.answered.Answer.{Answer}
 use Rattle.reg_lookup.specs.declared.query.Query.{Query}
-use Rattle.reg_leader.specs.declared.command.Command.{Command}
-use Rattle.reg_leader.specs.declared.reply.Reply.{Reply}
-use Rattle.reg_leader.specs.declared.reply.Reply.TheVariants.{Refused}
 use Rattle.reg_node.specs.Takes.{taken, takes_of}
 use Rattle.reg_node.specs.declared.take.Draw.{Draw}
+use Rattle.reg_desk.specs.FeedDesk.{Stands}
 use Rattle.reg_intake.specs.Intake.{HasRead, IsRefusal, Unread, records_of_first}
 use Rattle.reg_intake.specs.declared.fault.IntakeError.{IntakeError}
 use Rattle.reg_intake.specs.declared.fault.IntakeError.TheVariants as intakes
@@ -29,8 +26,9 @@ use Rattle.reg_intake.specs.declared.incoming.Came.{Came}
 use Rattle.reg_intake.specs.declared.incoming.Came.TheVariants as cames
 use Rattle.reg_intake.specs.declared.pieces.GiveError.{GiveError}
 use Rattle.reg_intake.specs.declared.pieces.GiveError.TheVariants as gives
+use Rattle.reg_service.specs.declared.error.ServiceError.TheVariants as services
 use Rattle.reg_follow.specs.declared.ended.FollowError.{FollowError}
-use Rattle.reg_follow.specs.declared.ended.FollowError.TheVariants.{Fault, ReadFault, OutOfMemory}
+use Rattle.reg_follow.specs.declared.ended.FollowError.TheVariants.{Fault, ReadFault, Service}
 use Rattle.reg_follow.specs.declared.ended.LinesEnd.{LinesEnd}
 use Rattle.reg_follow.specs.declared.ended.LinesEnd.TheVariants as ends
 use Rattle.reg_follow.specs.declared.reading.Piece.{Piece}
@@ -109,30 +107,15 @@ pub record Adds (old : Following) (read : Read) (new : Following) : Type 0 where
 
 abbrev pub follow_error_of : IntakeError → FollowError
 follow_error_of (intakes.Fault line fault) = Fault line fault
-follow_error_of intakes.OutOfMemory = OutOfMemory
+follow_error_of intakes.OutOfMemory = Service services.OutOfMemory
 
 abbrev pub follow_error_of_read : GiveError → FollowError
 follow_error_of_read (gives.Read kind) = ReadFault
-follow_error_of_read gives.OutOfMemory = OutOfMemory
+follow_error_of_read gives.OutOfMemory = Service services.OutOfMemory
 
 -- the front is what the first lines come to, so many of those that say something
 abbrev pub IsOfFirst : List Read → ℕ → List Draw → Type 0
 IsOfFirst read n front = (n ≤ length read) × (front ≡ takes_of 0 (records_of_first n read))
-
--- a query is answered from a front that begins with the one before
-pub record Asks (before : List Draw) (q : Query) (a : Result Answer AllocError) (after : List Draw) : Type 0 where
-  pub answered : IfOk a (IsAnswer (last_records (taken after)) q)
-  pub shows : IsPrefix before after
-
--- each command is refused, and changes nothing
-abbrev pub Refuses : List Draw → Command → Reply → List Draw → Type 0
-Refuses before c reply after = (reply ≡ Refused FollowsLog) × (after ≡ before)
-
--- the front becomes the longer of both
-pub record Learns (before told after : List Draw) : Type 0 where
-  pub one : (after ≡ before) ⊎ (after ≡ told)
-  pub this : IsPrefix before after
-  pub that : IsPrefix told after
 
 -- what was read of a reader is behind the text, and more lines of that are taken
 pub record Follows (old new : Option (List ℕ)) (text : List ℕ) (read : List Read) (s : Following) : Type 0 where
@@ -145,7 +128,7 @@ pub record Follows (old new : Option (List ℕ)) (text : List ℕ) (read : List 
 abbrev pub HasFollowCause : {B : Type 0} → (B → ErrorKind → B → Type 0) → B → Following → FollowError → Type 0
 HasFollowCause fails reader s (Fault line fault) = IsRefusal s.unread (intakes.Fault line fault)
 HasFollowCause {B} fails reader s ReadFault = (before : B) × (kind : ErrorKind) × (kind ≢ Interrupted) × fails before kind reader
-HasFollowCause fails reader s OutOfMemory = ⊤
+HasFollowCause fails reader s (Service services.OutOfMemory) = ⊤
 HasFollowCause fails reader s other = ⊥
 
 -- lines aren't followed any more, and why: what was read of a reader is behind the text, more lines of that were read, and the list
@@ -193,13 +176,19 @@ pub record Publishes (text : List ℕ) (read : List Read) (goes_on : Bool) (new 
   pub none : new.pending ≡ []
   pub stops : MatchBool goes_on (HasNoLineFeed new.unread.bytes) ((rest : List ℕ) × (new.unread.bytes ≡ 10 ∷ rest))
 
--- where lines are followed, nothing is a front of the first none, a later front is of no fewer lines, and what is answered
--- from a front is what the log of its lines answers
-pub record AnswersAreOfFirstLines (read : List Read) (list : List Draw) : Type 0 where
+-- where lines are followed, nothing is a front of the first none, a later front is of no fewer lines, and a front comes to the records of
+-- its lines. A desk answers a query as the log of the first lines does, so many of them: no fewer than those of the front that it had seen
+pub record AnswersAreOfFirstLines {C : Type 0} (asks : Stands Draw C → Query → Result Answer AllocError → Stands Draw C → Type 0)
+    (read : List Read) (list : List Draw) : Type 0 where
   pub begins : IsOfFirst read 0 []
   pub later : (n : ℕ) (front after : List Draw)
       → IsOfFirst read n front
       → IsPrefix front after
       → IsPrefix after list
       → (m : ℕ) × (n ≤ m) × IsOfFirst read m after
-  pub answers : (n : ℕ) (front : List Draw) → IsOfFirst read n front → taken front ≡ from_list (records_of_first n read)
+  pub comes_to : (n : ℕ) (front : List Draw) → IsOfFirst read n front → taken front ≡ from_list (records_of_first n read)
+  pub answers : (n : ℕ) (before : Stands Draw C) (q : Query) (a : Result Answer AllocError) (after : Stands Draw C)
+      → IsOfFirst read n before.front
+      → asks before q a after
+      → IsPrefix after.front list
+      → (m : ℕ) × (n ≤ m) × IsOfFirst read m after.front × IfOk a (IsAnswer (last_records (from_list (records_of_first m read))) q)

@@ -62,12 +62,12 @@ impl Course {
         *self.error.lock(rt)
     }
 
-    /// Nobody needs the views any more.
+    /// Nobody needs the desks' list any more.
     pub fn leave(&self) {
         self.is_left.store(true, Ordering::SeqCst);
     }
 
-    /// Whether nobody needs the views any more.
+    /// Whether nobody needs the desks' list any more.
     pub fn is_left(&self) -> bool {
         self.is_left.load(Ordering::SeqCst)
     }

@@ -1,78 +1,44 @@
-// Threads over nodes that follow lines.
-ghost use Rattle.std.specs.Prelude.{◌≡◌, ◌<◌, ◌^◌};
+// Threads over ports that follow lines.
+ghost use Rattle.std.specs.Prelude.{◌≡◌, ◌<◌};
 ghost use Rattle.std.specs.FinSet.{empty};
 
 use crate::course::Course;
-use crate::desk::FollowDesk;
 use crate::ended::{FollowError, LinesEnd};
 use crate::intake::Intake;
 use crate::reading::follow_lines;
-use reg_feed::{Copies, FeedName, Seen, Unnamed, feed};
+use reg_desk::{FeedDesk, Nobody};
+use reg_feed::{Copies, FeedName, Stored, Unnamed, feed};
 use reg_meters::Traffic;
-use reg_node::{Draw, NodeView, Taken};
-use reg_serve::{
-    Follow, Latch, Limits, NodeServer, Observe, StartError, begin, follow_list, open_node,
-};
+use reg_node::{Draw, Taken};
+use reg_service::{Endpoints, Follow, ServiceError, Size, serve_desks};
 use std::alloc::Global;
 use std::io::{BufRead, Eprint};
 use std::marker::Brand;
-use std::net::{Net, TcpListener};
+use std::net::Net;
 use std::sync::{Arc, Wait};
-use std::thread::{self, Parker, Scope, Threads};
+use std::thread::{self, Parker, Threads};
 use std::time::{Clock, Duration};
 
-/// The most nodes of a process.
-pub const FOLLOW_NODES_LIMIT: usize = 3;
-
-/// The most workers of a node.
+/// The most workers of a port.
 const WORKERS_LIMIT: u32 = 1_024;
 
 /// How long it is looked from one time to the next whether lines have come, in milliseconds.
 const LOOK: u64 = 20;
 
-/// Nodes listen once no line came for so long after the first one, in milliseconds.
+/// Ports listen once no line came for so long after the first one, in milliseconds.
 const QUIET: u64 = 500;
 
-/// Nodes listen though no line came for so long, in milliseconds.
+/// Ports listen though no line came for so long, in milliseconds.
 const PATIENCE: u64 = 10_000;
 
-/// How many nodes there are, and what each serves.
-#[derive(Clone, Copy, Debug, PartialEq, Eq)]
-pub struct FollowSize {
-    /// From 1 to 3; another number counts as the nearest of these.
-    pub nodes: usize,
-    /// The workers of a node, of which each answers one connection at a time. None count as one.
-    pub workers: u32,
-    /// A node ends once as many times its workers of its connections were closed.
-    pub limit: Option<u64>,
-}
+/// A desk over the list of what was taken, which does no commands.
+pub type FollowDesk<M, U> = FeedDesk<Draw, Taken, M, U, Nobody>;
 
-/// Where the nodes are reached.
-pub trait FollowEndpoints {
-    /// Where nodes listen, the first node at the first one. Called once, after the first lines were taken.
-    fn listen(&mut self) -> Result<Vec<TcpListener>, FollowError>;
-
-    /// All threads are there, and begin where this says so; so many lines were taken. Called once, or not
-    /// at all where a thread was refused.
-    fn ready(&mut self, lines: u64) -> bool;
-}
-
-/// A node's follower, which has nothing to do but to tell that lines can't be taken any more, and where the node's traffic is counted.
+/// Watches whether lines can't be taken any more. There is nothing to bring to the ports: what takes the lines publishes their list.
 #[derive(Drop)]
 struct Watching<'a> {
     course: &'a Course,
     grown: Parker,
-    traffic: &'a Traffic,
-}
-
-impl Observe for Watching<'_> {
-    fn traffic(&self) -> &Traffic {
-        self.traffic
-    }
-
-    fn thread_ended(&self) {
-        self.grown.unpark();
-    }
 }
 
 impl Follow for Watching<'_> {
@@ -87,75 +53,89 @@ impl Follow for Watching<'_> {
     }
 }
 
-/// Serves what the lines of a reader come to, by so many nodes, which refuse commands. They listen once
-/// 500 ms passed without a line after the first one, 10 s without any, or the input ended. At its end, which
-/// is said on the error output, they go on with what they have. Their connections and requests are counted in the traffic.
+/// Serves what the lines of a reader come to, at so many ports of 1,024 workers each at most, which refuse commands. They listen once 500
+/// ms passed without a line after the first one, 10 s without any, or the input ended. At its end, which is said on the error output, they
+/// go on with what they have. Their connections and requests are counted in the traffic.
 ///
-/// With a limit the call returns once all nodes have ended. Without one it returns only where lines can't be
-/// taken any more, or the nodes can't be started.
+/// With a limit the call returns once all ports have ended. Without one it returns only where lines can't be taken any more, or the ports
+/// can't be started.
 pub fn serve_lines<
     B: BufRead + Send + Drop + 'static,
     R: Threads + Wait + Clock + Net + Eprint + Sync + Send + Copy + Drop + 'static,
-    G: FollowEndpoints,
+    E: Endpoints,
 >(
     rt: R,
     alloc: Global,
-    size: FollowSize,
+    size: Size,
     reader: B,
     traffic: &Traffic,
-    endpoints: &mut G,
+    endpoints: &mut E,
 ) -> Result<(), FollowError> {
-    serve_feed::<Brand, B, R, G>(rt, alloc, size, Unnamed::new(), reader, traffic, endpoints)
+    let size = size.with_workers(1, WORKERS_LIMIT);
+    serve_feed::<Brand, B, R, E>(rt, alloc, size, Unnamed::new(), reader, traffic, endpoints)
 }
 
-/// Makes the one feed of all nodes, starts the thread that takes lines, and serves from the views.
+/// Makes the one feed of all ports, starts the thread that takes lines, and serves by desks over that feed.
 fn serve_feed<
     M: FeedName<Draw, Taken> + Send + Sync + 'static,
     B: BufRead + Send + Drop + 'static,
     R: Threads + Wait + Clock + Net + Eprint + Sync + Send + Copy + Drop + 'static,
-    G: FollowEndpoints,
+    E: Endpoints,
 >(
     rt: R,
     alloc: Global,
-    size: FollowSize,
+    size: Size,
     list: Unnamed<Draw>,
     reader: B,
     traffic: &Traffic,
-    endpoints: &mut G,
+    endpoints: &mut E,
 ) -> Result<(), FollowError>
     requires { (list.reached.book ≡ M.book) × (M.first ≡ empty) }
 {
-    let count = views_of(size);
-    let out = feed::<Draw, Taken, M, R>(rt, alloc, list, Taken::new(alloc), count)?;
-    let mut intake = Intake::new(alloc, Box::new(alloc, out)?);
-    let mut views = Vec::new(alloc);
-    for _view in 0..count {
-        views.push(intake.view()?)?;
-    }
-    let course = Arc::new(alloc, Course::new())?;
-    let taking = Taking { rt, reader, intake };
-    start(&rt, taking, Arc::try_clone(&course)?)?;
+    let count = size.desks();
+    let mut intake = make_intake::<M, R>(rt, alloc, list, count)?;
+    let mut desks = make_desks(alloc, &mut intake, count)?;
+    let course = start(&rt, alloc, Taking { rt, reader, intake })?;
     wait_for_lines(&rt, &course);
-    let served = serve_views(&rt, alloc, size, &course, views, traffic, endpoints);
+    let served = serve_course(&rt, alloc, size, &course, &mut desks, traffic, endpoints);
     course.leave();
     served
 }
 
-/// How many views there are: one a worker.
-fn views_of(size: FollowSize) -> usize
-    ensures { (0 < result) × (result < 2 ^ 32) }
+/// What takes lines, over a feed of its own with places for so many readers.
+fn make_intake<M: FeedName<Draw, Taken>, R: Wait + Drop>(
+    rt: R,
+    alloc: Global,
+    list: Unnamed<Draw>,
+    readers: u32,
+) -> Result<Intake<M, Stored<Draw, Taken, M>, R>, ServiceError>
+    requires name { (list.reached.book ≡ M.book) × (M.first ≡ empty) }
+    requires readers { 0 < readers }
 {
-    let nodes = size.nodes.clamp(1, FOLLOW_NODES_LIMIT);
-    let workers = size.workers.clamp(1, WORKERS_LIMIT) as usize;
-    nodes * workers
+    let out = feed::<Draw, Taken, M, R>(rt, alloc, list, Taken::new(alloc), readers as usize)?;
+    Ok(Intake::new(alloc, Box::new(alloc, out)?))
 }
 
-/// What a thread does beside the nodes.
+/// So many desks over the feed of what takes lines.
+fn make_desks<M: FeedName<Draw, Taken>, U: Copies<Draw, Taken, M>, R: Wait + Drop>(
+    alloc: Global,
+    intake: &mut Intake<M, U, R>,
+    count: u32,
+) -> Result<Vec<FollowDesk<M, U>>, ServiceError> {
+    let mut desks = Vec::new(alloc);
+    for _desk in 0..count {
+        let view = intake.view()?;
+        desks.push(FeedDesk::new(Nobody, view))?;
+    }
+    Ok(desks)
+}
+
+/// What a thread does beside the ports.
 trait Task {
     fn run(&mut self, course: &Course);
 }
 
-/// Takes lines, and keeps the views' list until nobody needs them.
+/// Takes lines, and keeps the desks' list until nobody needs it.
 #[derive(Drop)]
 struct Taking<B: Drop, M: FeedName<Draw, Taken>, U: Copies<Draw, Taken, M>, R: Wait + Drop> {
     rt: R,
@@ -186,16 +166,18 @@ impl<
     }
 }
 
-/// Starts a thread, which nobody waits for: it may read for ever.
+/// Starts a thread, which nobody waits for: it may read for ever. Gives its course.
 fn start<R: Threads, T: Task + Send + Drop + 'static>(
     rt: &R,
+    alloc: Global,
     task: T,
-    course: Arc<Course, Global>,
-) -> Result<(), FollowError> {
+) -> Result<Arc<Course, Global>, ServiceError> {
     let mut task = task;
-    match thread::spawn(rt, move || task.run(&course)) {
-        Ok(_thread) => Ok(()),
-        Err(_refused) => Err(FollowError::NotStarted),
+    let course = Arc::new(alloc, Course::new())?;
+    let own = Arc::try_clone(&course)?;
+    match thread::spawn(rt, move || task.run(&own)) {
+        Ok(_thread) => Ok(course),
+        Err(_refused) => Err(ServiceError::NotStarted),
     }
 }
 
@@ -228,105 +210,41 @@ fn wait_for_lines<R: Wait + Clock>(rt: &R, course: &Course) {
     }
 }
 
-/// Opens nodes over the views, unless lines can't be taken.
-fn serve_views<
+/// Serves by the desks, unless lines can't be taken.
+fn serve_course<
     M: FeedName<Draw, Taken> + Send + Sync,
     U: Copies<Draw, Taken, M> + Send + Sync,
     R: Threads + Wait + Clock + Net + Sync + Send + Copy + Drop,
-    G: FollowEndpoints,
+    E: Endpoints,
 >(
     rt: &R,
     alloc: Global,
-    size: FollowSize,
+    size: Size,
     course: &Course,
-    views: Vec<NodeView<M, U>>,
+    desks: &mut Vec<FollowDesk<M, U>>,
     traffic: &Traffic,
-    endpoints: &mut G,
+    endpoints: &mut E,
 ) -> Result<(), FollowError> {
     if let Some(error) = course.error(rt) {
         return Err(error);
     }
-    let listeners = endpoints.listen()?;
-    let limits = Limits::of_nodes(listeners.len());
-    let workers = size.workers.clamp(1, WORKERS_LIMIT) as usize;
-    let mut nodes = Vec::new(alloc);
-    for listener in &listeners {
-        let watching = Watching {
-            course,
-            grown: Parker::new(),
-            traffic,
-        };
-        nodes.push(NodeServer::new(rt, alloc, listener, watching, workers, limits)?)?;
-    }
-    serve_nodes(rt, alloc, size, course, &nodes, views, endpoints)?;
+    let watching = Watching {
+        course,
+        grown: Parker::new(),
+    };
+    let reached = course.lines();
+    serve_desks(
+        rt,
+        alloc,
+        size,
+        traffic,
+        desks,
+        endpoints,
+        reached,
+        Some(&watching),
+    )?;
     match course.error(rt) {
         Some(error) => Err(error),
         None => Ok(()),
     }
-}
-
-/// Starts the threads of nodes, lets them begin, and returns once all have ended.
-fn serve_nodes<
-    's,
-    M: FeedName<Draw, Taken> + Send + Sync,
-    U: Copies<Draw, Taken, M> + Send + Sync,
-    R: Threads + Wait + Clock + Sync,
-    G: FollowEndpoints,
->(
-    rt: &'s R,
-    alloc: Global,
-    size: FollowSize,
-    course: &'s Course,
-    nodes: &'s [NodeServer<'s, Watching<'s>, Seen<Draw, Taken, M>>],
-    views: Vec<NodeView<M, U>>,
-    endpoints: &mut G,
-) -> Result<(), FollowError> {
-    let latch = Latch::new();
-    let entry = &latch;
-    thread::scope(
-        thread::scope_env(),
-        rt,
-        |scope| -> Result<(), FollowError> {
-            let started = open_nodes(scope, rt, alloc, entry, size, nodes, views);
-            begin(entry, started, || endpoints.ready(course.lines()))?;
-            Ok(())
-        },
-    )
-}
-
-/// Starts the threads of each node, with as many of the views as it has workers.
-fn open_nodes<
-    's,
-    E,
-    M: FeedName<Draw, Taken> + Send + Sync + 's,
-    U: Copies<Draw, Taken, M> + Send + Sync + 's,
-    R: Threads + Wait + Clock + Sync + 's,
->(
-    scope: &Scope<'s, E>,
-    rt: &'s R,
-    alloc: Global,
-    latch: &'s Latch,
-    size: FollowSize,
-    nodes: &'s [NodeServer<'s, Watching<'s>, Seen<Draw, Taken, M>>],
-    views: Vec<NodeView<M, U>>,
-) -> Result<(), StartError> {
-    let mut views = views;
-    let workers = u64::from(size.workers.clamp(1, WORKERS_LIMIT));
-    let limit = size
-        .limit
-        .map(|connections| connections.saturating_mul(workers));
-    for node in nodes {
-        let mut desks = Vec::new(alloc);
-        for _worker in 0..workers {
-            let Some(view) = views.pop() else {
-                return Err(StartError);
-            };
-            if desks.push(FollowDesk::new(view)).is_err() {
-                return Err(StartError);
-            }
-        }
-        open_node(scope, rt, alloc, latch, node, desks, limit)?;
-        follow_list(scope, rt, latch, node)?;
-    }
-    Ok(())
 }

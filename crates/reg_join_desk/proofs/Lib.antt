@@ -1,4 +1,1 @@
-pub mod Fresh
-pub mod Learnt
 pub mod Ordered
-pub mod Turns

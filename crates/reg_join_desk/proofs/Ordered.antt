@@ -1,81 +1,58 @@
--- What a command does at a pen, and then at the desk.
-use Rattle.std.proofs.Common.{◌≡◌, ◌⊎◌, List, Option, Some, None, MatchBool, IfOk, Result, refl, sym, subst, ◌∙◌}
+-- What a command does at a pen, and what is seen then.
+use Rattle.std.proofs.Common.{◌≡◌, ◌⊎◌, inl, inr, List, [], ◌∷◌, ◌++◌, Option, Some, None, refl, sym, ap, subst, ◌∙◌, append_assoc, option_map, Bor}
+use Rattle.std.proofs.lemmas.List.{append-nil}
 use mathlib.Core.List.{IsPrefix}
 use Rattle.reg_records.specs.declared.record.Record.{Record}
 use Rattle.reg_leader.specs.declared.command.Command.{Command}
 use Rattle.reg_leader.specs.declared.reply.Reply.{Reply}
 use Rattle.reg_topic.specs.declared.published.Item.{Item}
 use Rattle.reg_topic.specs.declared.topic.Topic.{Topic}
-use Rattle.reg_shared.specs.Held.{Held, base_of}
-use Rattle.reg_pen.specs.Pen.{IsPen, PenState}
-use Rattle.reg_node.specs.declared.take.Draw.{Draw}
-use Rattle.std.specs.declared.alloc.AllocError.{AllocError}
-use Rattle.reg_set.specs.LastRecords.{last_records}
-use Rattle.reg_lookup.specs.Answers.{IsAnswer}
-use Rattle.reg_lookup.specs.declared.answered.Answer.{Answer}
-use Rattle.reg_lookup.specs.declared.query.Query.{Query}
-use Rattle.reg_node.specs.Takes.{taken}
-use Rattle.reg_desk.specs.Desk.{DeskAsks, IsFresh, front_of}
-use Rattle.reg_join_desk.proofs.Fresh.{prefix_trans}
+use Rattle.reg_pen.specs.Pen.{IsPen, PenState, item_of}
+use Rattle.reg_desk.specs.Desk.{front_of}
+use Rattle.reg_desk.proofs.Told.{same_front}
 use Rattle.reg_chain.specs.declared.chain.ChainAnswer.{ChainAnswer}
-use Rattle.reg_join.specs.Ending.{Ends}
+use Rattle.reg_join.specs.Ending.{ComesTo, Ends, whole_list}
 use Rattle.reg_join.specs.Joined.{IsJoined}
 use Rattle.reg_join.specs.declared.commanding.JoinOutcome.{JoinOutcome}
+use Rattle.reg_join.specs.declared.commanding.JoinOutcome.TheVariants as outcomes
 use Rattle.reg_join.specs.declared.join_keep.JoinKeep.{JoinKeep}
-use Rattle.reg_join_desk.specs.JoinedDesk.{IsOrdered, JoinedKnown, Orders, ShowsFront, outcome_reply}
+use Rattle.reg_join_desk.specs.JoinedDesk.{IsOrdered, JoinCarries, JoinOrders, ShowWhatTheyReply, ShowsTold, declined_reply, outcome_reply}
 
--- a query that is answered from a second look
-pub asks_twice : (inside before after : JoinedKnown) (mid : List Draw) (q : Query) (a : Result Answer AllocError) → inside ≡ before
-    → IfOk a (IsAnswer (last_records (taken after.view)) q) → IsPrefix inside.view mid → IsPrefix mid after.view
-    → after.seen ≡ inside.seen → after.submits ≡ inside.submits → after.fresh ≡ inside.fresh → DeskAsks before q a after
-asks_twice inside before after mid q a same answered one two seen submits fresh =
-    subst (λ (k : JoinedKnown). DeskAsks k q a after) same (record {
-      answered = answered;
-      shows = prefix_trans inside.view mid after.view one two;
-      same_seen = seen;
-      same_submits = submits;
-      same_fresh = fresh;
-      same_wake = refl;
-    })
+prefix_self : {A : Type 0} (xs : List A) → IsPrefix xs xs
+prefix_self xs = ([], append-nil xs)
 
--- a front that was told, and what the view shows then
-pub shows_told : (first : Held) (inside before after : JoinedKnown) (told front : List Item) → inside ≡ before
-    → after.seen ≡ Some front → (front ≡ front_of inside.seen) ⊎ (front ≡ told) → IsPrefix (front_of inside.seen) front → IsPrefix told front
-    → MatchBool after.fresh (IsPrefix inside.view after.view × IsFresh first front after.view) (after.view ≡ inside.view)
-    → ShowsFront first (Some told) before before.view after
-shows_told first inside before after told front same seen one this that shows =
-    subst (λ (k : JoinedKnown). ShowsFront first (Some told) k k.view after) same (record {
-      front = front;
-      seen = seen;
-      one = one;
-      this = this;
-      that = that;
-      shows = shows;
-    })
+prefix_trans : {A : Type 0} (xs ys zs : List A) → IsPrefix xs ys → IsPrefix ys zs → IsPrefix xs zs
+prefix_trans xs ys zs p q = (p.0 ++ q.0, sym (append_assoc xs p.0 q.0) ∙ (ap (λ w. w ++ q.0) p.1 ∙ q.1))
 
--- a judgement leaves the front, and whether it is shown
-pub shows_from : (first : Held) (told : Option (List Item)) (judged before : JoinedKnown) (after : JoinedKnown)
-    → judged.seen ≡ before.seen → judged.fresh ≡ before.fresh → ShowsFront first told judged judged.view after
-    → ShowsFront first told before judged.view after
-shows_from first None judged before after seen fresh shows = (shows.0 ∙ seen, shows.1 ∙ fresh, shows.2)
-shows_from first (Some told) judged before after seen fresh shows = record {
-  front = shows.front;
-  seen = shows.seen;
-  one = subst (λ (w : Option (List Item)). (shows.front ≡ front_of w) ⊎ (shows.front ≡ told)) seen shows.one;
-  this = subst (λ (w : Option (List Item)). IsPrefix (front_of w) shows.front) seen shows.this;
-  that = shows.that;
-  shows = shows.shows;
-}
+-- where nothing was seen, that begins each list
+pub nothing_begins : (known : Option (List Item)) (told : List Item) → known ≡ None → IsPrefix (front_of known) told
+nothing_begins known told none = subst (λ (w : Option (List Item)). IsPrefix (front_of w) told) (sym none) (told, refl)
 
-module _ {C : Type 0} (told : C → List (List Record)) (answers : C → List Record → ChainAnswer → C → Type 0) where
-  -- what a pen did
-  pub is_ordered : (base : Topic) (old new : PenState (JoinKeep C)) (c : Command) (outcome : JoinOutcome) (seen : Option (List Item))
-      → Ends told answers base old c outcome seen new → IsPen base old.published old.pending → IsJoined told old → IsJoined told new
-      → IsPrefix old.published new.published → IsOrdered told answers base c outcome seen
-  is_ordered base old new c outcome seen ends was was_joined joined grows = record {
+-- what is seen goes on
+told_grows : (judged : List Item) (told : Option (List Item)) (front : List Item) → ShowsTold judged told front → IsPrefix judged front
+told_grows judged None front same = subst (IsPrefix judged) (sym same) (prefix_self judged)
+told_grows judged (Some told) front shows = shows.this
+
+-- where a list was told that begins with the one before, it is seen
+told_seen : (judged list : List Item) (told : Option (List Item)) (front : List Item) → told ≡ Some list → IsPrefix judged list
+    → ShowsTold judged told front → told ≡ Some front
+told_seen judged list None front is p shows = absurd (cc is)
+told_seen judged list (Some told) front is p shows =
+    let same : told ≡ list = cc is in
+    let here : IsPrefix judged told = subst (IsPrefix judged) (sym same) p in
+    ap Some (sym (same_front judged told front shows.one shows.that here))
+
+module _ {C : Type 0} (told : C → List (List Record)) (answers : C → List Record → ChainAnswer → C → Type 0) (base : Topic) where
+  -- what a pen did, which was covered by what its list begins with
+  pub is_ordered : (covered old new : PenState (JoinKeep C)) (since : List Item) (c : Command) (outcome : JoinOutcome) (seen : Option (List Item))
+      → IsPrefix since covered.published → old ≡ covered → Ends told answers base old c outcome seen new
+      → IsPen base old.published old.pending → IsJoined told old → IsJoined told new → IsPrefix old.published new.published
+      → IsOrdered told answers base since c outcome seen
+  is_ordered covered old new since c outcome seen begun same ends was was_joined joined grows = record {
     old = old;
     was = was;
     was_joined = was_joined;
+    begun = subst (λ (l : PenState (JoinKeep C)). IsPrefix since l.published) (sym same) begun;
     new = new;
     joined = joined;
     grows = grows;
@@ -83,25 +60,48 @@ module _ {C : Type 0} (told : C → List (List Record)) (answers : C → List Re
   }
 
   -- a pen whose batches are those that its chain told meets the premise
-  pub ends_given : (base : Topic) (lent inside old new : PenState (JoinKeep C)) (c : Command) (outcome : JoinOutcome)
-      (seen : Option (List Item)) → lent ≡ inside → inside ≡ old → IsJoined told inside
+  pub ends_given : (lent inside old new : PenState (JoinKeep C)) (c : Command) (outcome : JoinOutcome) (seen : Option (List Item))
+      → lent ≡ inside → inside ≡ old → IsJoined told inside
       → (IsJoined told lent → Ends told answers base lent c outcome seen new) → Ends told answers base old c outcome seen new
-  ends_given base lent inside old new c outcome seen same is joined ends =
+  ends_given lent inside old new c outcome seen same is joined ends =
       subst (λ (l : PenState (JoinKeep C)). Ends told answers base l c outcome seen new) (same ∙ is)
       (ends (subst (IsJoined told) (sym same) joined))
 
-  -- what a desk did with a command
-  pub orders : (first : Held) (inside before after : JoinedKnown) (c : Command) (reply : Reply) (outcome : JoinOutcome)
-      (seen : Option (List Item)) (judged : List Draw) → inside ≡ before → IsOrdered told answers (base_of first) c outcome seen
-      → reply ≡ outcome_reply outcome → IsPrefix inside.view judged → ShowsFront first seen inside judged after
-      → Orders told answers first before c reply after
-  orders first inside before after c reply outcome seen judged same ordered replies judges shows =
-      subst (λ (k : JoinedKnown). Orders told answers first k c reply after) same (record {
-        outcome = outcome;
-        seen = seen;
-        ordered = ordered;
-        replies = replies;
-        judged = judged;
-        judges = judges;
-        shows = shows;
-      })
+  -- what was done with a command that was judged over a list, by whoever holds a copy of that list's front
+  pub orders : (since judged again front : List Item) (c : Command) (reply : Reply) (outcome : JoinOutcome) (seen : Option (List Item))
+      → IsPrefix since judged → again ≡ judged → IsOrdered told answers base again c outcome seen → reply ≡ outcome_reply outcome
+      → ShowsTold judged seen front → JoinOrders told answers base since c reply front
+  orders since judged again front c reply outcome seen judges same ordered replies shows = record {
+    judged = judged;
+    judges = judges;
+    outcome = outcome;
+    seen = seen;
+    ordered = subst (λ (w : List Item). IsOrdered told answers base w c outcome seen) same ordered;
+    replies = replies;
+    shows = shows;
+  }
+
+  pub orders_grow : (since : List Item) (c : Command) (reply : Reply) (front : List Item) → JoinOrders told answers base since c reply front
+      → IsPrefix since front
+  orders_grow since c reply front o = prefix_trans since o.judged front o.judges (told_grows o.judged o.seen front o.shows)
+
+  -- nothing was done
+  pub nothing_more : (since front : List Item) → front ≡ since → IsPrefix since front
+  nothing_more since front same = subst (IsPrefix since) (sym same) (prefix_self since)
+
+  -- the list of a reply begins with all that was published when its command was decided last
+  replied_list : (tried : PenState (JoinKeep C)) (c : Command) (reply : Reply) (seen : Option (List Item)) (k : JoinKeep C)
+      → ComesTo told answers base (outcomes.Replied reply) tried c seen k → (list : List Item) × ((seen ≡ Some list) × IsPrefix tried.published list)
+  replied_list tried c reply seen k (inl alone) = (whole_list tried, (alone.shown, (tried.pending, refl)))
+  replied_list tried c reply seen k (inr behind) =
+      let item : List Item = item_of c (behind.first ∷ behind.rest) in
+      (whole_list tried ++ item, (behind.shown, (tried.pending ++ item, sym (append_assoc tried.published tried.pending item))))
+
+  pub show_replies : ShowWhatTheyReply told answers base
+  show_replies since c reply replied front done is =
+      let ends = done.ordered.ends in
+      let comes : ComesTo told answers base (outcomes.Replied replied) ends.tried c done.seen done.ordered.new.keep =
+      subst (λ (o : JoinOutcome). ComesTo told answers base o ends.tried c done.seen done.ordered.new.keep) is ends.comes in
+      let list = replied_list ends.tried c replied done.seen done.ordered.new.keep comes in
+      let begun = prefix_trans done.judged done.ordered.old.published ends.tried.published done.ordered.begun ends.grows in
+      told_seen done.judged list.0 done.seen front list.1.0 (prefix_trans done.judged ends.tried.published list.0 begun list.1.1) done.shows

@@ -1,3 +1,2 @@
 pub mod Hidden
 pub mod JoinedDesk
-pub mod Turns

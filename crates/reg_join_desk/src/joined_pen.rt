@@ -116,7 +116,15 @@ impl<
         self.pen.registry()
     }
 
-    /// A reader of the list that has seen nothing, from which the nodes' follower takes. It may be refused at any call.
+    /// Whoever saw or learnt of a list of the log saw what this pen published, or a beginning of it.
+    pub fn covers(&mut self, seen: &Seen<Item, Shared, N>)
+        ensures begins { IsPrefix seen.now self.old.published }
+        ensures same { self.new ≡ self.old }
+    {
+        self.pen.covers(seen);
+    }
+
+    /// A reader of the list that has seen nothing, from which a desk's view looks. It may be refused at any call.
     pub fn reader(&mut self) -> Result<FeedReader<Item, Shared, N, S>, NoPlace>
         ensures new { IfOk result (λ reader. reader ≡ []) }
         ensures same { self.new ≡ self.old }

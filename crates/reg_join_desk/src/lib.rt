@@ -1,22 +1,23 @@
-//! The desks of nodes whose log others write too: commands wait for the log, and so do lookups of what others may just have written.
+//! Commands over a log that others write too, at desks that answer from its own list: they wait for the log, and so do lookups of what others
+//! may just have written.
 #![tactic(auto)]
 
 mod hidden;
-mod joined_desk;
+mod join_commander;
+mod join_handle;
 mod joined_pen;
 mod laws;
 mod log_waits;
-mod ordering;
 mod outcomes;
 mod patience;
 mod rounds;
 mod shared_check;
 
-pub use joined_desk::JoinedDesk;
+pub use join_commander::JoinCommander;
 pub use joined_pen::JoinedPen;
-pub use laws::joined_connections_read_their_writes;
+pub use laws::joined_desks_show_what_they_reply;
 pub use log_waits::LogWaits;
-pub use reg_desk::{Follower, NodeView, Pass, Pen, Standing};
+pub use reg_desk::{FeedDesk, Pass, Pen, View, desk_judge};
 pub use reg_join::{
     Chain, ChainAnswer, JoinKeep, JoinOutcome, JoinSubmitted, MemoryChain, Stand, TakenIn,
 };

@@ -1,4 +1,4 @@
-// Checks that lookups share.
+// What desks want of the thread that takes in.
 use crate::rounds::Rounds;
 use std::sync::atomic::{AtomicBool, Ordering};
 use std::sync::{Condvar, CondvarTimeouts, Mutex, Wait};
@@ -6,10 +6,12 @@ use std::thread::Parker;
 use std::time::{Clock, Duration, Instant};
 
 /// Checks that lookups share: a lookup that didn't find what others may just have written waits for one, and one thread makes them, 50 a
-/// second at most. However many lookups wait, one check that was begun after they came serves them all.
+/// second at most. However many lookups wait, one check that was begun after they came serves them all. A desk whose command found that
+/// nothing is taken in any more says so here, too.
 #[derive(Drop)]
 pub struct SharedCheck {
     wanted: AtomicBool,
+    has_stopped: AtomicBool,
     rounds: Mutex<Rounds>,
     // Notified where a check is begun, and where it is over.
     turned: Condvar,
@@ -20,9 +22,21 @@ impl SharedCheck {
     pub const fn new() -> SharedCheck {
         SharedCheck {
             wanted: AtomicBool::new(false),
+            has_stopped: AtomicBool::new(false),
             rounds: Mutex::new(Rounds::new()),
             turned: Condvar::new(),
         }
+    }
+
+    /// A command found that what was told is no command's, so that nothing is taken in any more. `grown` is unparked, so that it is reported.
+    pub fn find_stop(&self, grown: &Parker) {
+        self.has_stopped.store(true, Ordering::SeqCst);
+        grown.unpark();
+    }
+
+    /// Whether a command found that. It waits for nobody.
+    pub fn has_stopped(&self) -> bool {
+        self.has_stopped.load(Ordering::SeqCst)
     }
 
     /// Whether a lookup waits for a check that isn't begun. It waits for nobody.

@@ -1,12 +1,13 @@
-// What is told before nodes listen.
-use crate::endpoints::JoinEndpoints;
+// What is told before ports listen.
 use crate::error::JoinError;
 use crate::taking::Taker;
+use crate::watch::Watch;
 use reg_adapter_line::{AdapterLine, LineEnd};
 use reg_chain::Chain;
 use reg_feed::{Copies, FeedName};
 use reg_join::TakenIn;
 use reg_join_desk::JoinedPen;
+use reg_service::ServiceError;
 use reg_shared::Shared;
 use reg_topic::Item;
 use std::sync::Wait;
@@ -19,18 +20,18 @@ pub(crate) fn take_history<
     S: Copies<Item, Shared, N>,
     C: Chain + Drop,
     R: Wait + Clock + Drop,
-    E: JoinEndpoints,
+    W: Watch,
 >(
     rt: &R,
     line: &AdapterLine,
     taker: &mut Taker<N, S, C>,
     pen: &mut JoinedPen<N, S, C, R>,
-    endpoints: &E,
+    watch: &W,
 ) -> Result<(), JoinError> {
     for _news in rt.forever() {
         // All that is told before `ready`, or before the end, is due once that was read.
         let (is_ready, is_over) = (line.is_ready(), line.is_over());
-        take_told(rt, taker, pen, endpoints)?;
+        take_told(rt, taker, pen, watch)?;
         if is_ready {
             return Ok(());
         }
@@ -48,13 +49,13 @@ fn take_told<
     S: Copies<Item, Shared, N>,
     C: Chain + Drop,
     R: Wait + Drop,
-    E: JoinEndpoints,
+    W: Watch,
 >(
     rt: &R,
     taker: &mut Taker<N, S, C>,
     pen: &mut JoinedPen<N, S, C, R>,
-    endpoints: &E,
-) -> Result<(), JoinError> {
+    watch: &W,
+) -> Result<(), ServiceError> {
     for _piece in rt.forever() {
         if taker.passes_over() {
             return Ok(());
@@ -62,7 +63,7 @@ fn take_told<
         match taker.take(pen)? {
             TakenIn::Batch => {}
             TakenIn::All => return Ok(()),
-            TakenIn::Stopped => endpoints.stopped(taker.next()),
+            TakenIn::Stopped => watch.stopped(taker.next()),
         }
     }
     unreachable!()

@@ -1,5 +1,5 @@
 // The pen over a base.
-ghost use Rattle.std.specs.Prelude.{◌≡◌, [], false, IfOk, OnOk};
+ghost use Rattle.std.specs.Prelude.{◌≡◌, ◌<◌, [], false, IfOk, OnOk};
 ghost use Rattle.std.specs.FinSet.{from_list};
 ghost use Rattle.reg_set.specs.LastRecords.{last_records};
 ghost use Rattle.reg_fold.specs.IdMark.{needs_mark};
@@ -17,9 +17,6 @@ use reg_topic::Item;
 use std::alloc::Global;
 use std::sync::Wait;
 
-/// The readers of the log's list: one for the nodes, and one for what takes in.
-const READERS: usize = 2;
-
 /// A pen over a base, with the passes to submit to it.
 #[derive(Drop)]
 pub(crate) struct OpenedBase<N: FeedName<Item, Shared>, C: Chain + Drop, R: Wait + Drop> {
@@ -28,24 +25,27 @@ pub(crate) struct OpenedBase<N: FeedName<Item, Shared>, C: Chain + Drop, R: Wait
 }
 
 /// Opens a pen over a base behind which no mark of ids is due, and over a chain that has told nothing: the chain isn't asked for anything.
+/// There are so many passes, and places for so many readers.
 pub(crate) fn open_base<N: FeedName<Item, Shared>, C: Chain + Drop, R: Wait + Drop>(
     rt: R,
     alloc: Global,
     list: Unnamed<Item>,
     log: Log,
     chain: C,
-    passes: u32,
+    count: u32,
 ) -> Result<OpenedBase<N, C, R>, OpenError>
     requires name { (list.reached.book ≡ N.book) × (N.first ≡ held_of (topic_from log.records.items log.next log.floor)) }
     requires settled { needs_mark (last_records (from_list log.records.items)) ≡ false }
     requires new { C.told chain ≡ [] }
+    requires readers { 0 < count }
     ensures begun { IfOk result (λ opened. opened.pen.published ≡ []) }
     ensures chain { IfOk result (λ opened. opened.pen.keep.chain ≡ chain) }
     ensures adopted { OnOk result (IsAdopted (base_of N.first)) }
 {
     let keep = JoinKeep::new(chain);
     let kept = KeptLog::new(log, keep);
-    let Opened { pen, passes } = open::<N, JoinKeep<C>, R>(rt, alloc, list, kept, passes, READERS)?;
+    let readers = count as usize;
+    let Opened { pen, passes } = open::<N, JoinKeep<C>, R>(rt, alloc, list, kept, count, readers)?;
     let boxed = Box::new(alloc, pen)?;
     let joined = JoinedPen::new(boxed);
     Ok(OpenedBase {

@@ -1,28 +1,29 @@
-// A process over a log that others write too: the base, the history, and then the nodes.
+// A process over a log that others write too: the base, the history, and then the ports.
 ghost use Rattle.std.specs.Prelude.{◌≡◌, ◌≤◌, [], false, IfOk};
-ghost use Rattle.std.specs.FinSet.{empty, from_list};
+ghost use Rattle.std.specs.FinSet.{from_list};
 ghost use Rattle.reg_set.specs.LastRecords.{last_records};
 ghost use Rattle.reg_fold.specs.IdMark.{needs_mark};
 ghost use Rattle.reg_topic.specs.Topic.{topic_from};
 ghost use Rattle.reg_shared.specs.Held.{held_of};
 
 use crate::base::read_base;
-use crate::endpoints::JoinEndpoints;
+use crate::desks::{make_desks, waits_of};
 use crate::error::JoinError;
-use crate::history::take_history;
+use crate::following::Following;
+use crate::history::{end_of, take_history};
 use crate::opening::{OpenedBase, open_base};
-use crate::parts::{DeskParts, begin_to_follow, make_follower};
-use crate::running::{Crew, serve_crew};
-use crate::size::JoinSize;
+use crate::size::joined_size;
 use crate::taking::Taker;
 use crate::talking::start_talking;
-use reg_adapter_line::{AdapterChain, AdapterLine};
+use crate::watch::Watch;
+use reg_adapter_line::{AdapterChain, AdapterLine, LineEnd, Overhear};
 use reg_chain::Chain;
 use reg_feed::{Copies, FeedName, Stored, Unnamed};
-use reg_join_desk::JoinedPen;
-use reg_node::{Draw, Taken};
+use reg_join_desk::{JoinedPen, SharedCheck};
+use reg_meters::Traffic;
 use reg_pen::Pass;
 use reg_records::{Device, Log};
+use reg_service::{Endpoints, ServiceError, Size, serve_desks};
 use reg_shared::Shared;
 use reg_topic::Item;
 use std::alloc::Global;
@@ -39,23 +40,30 @@ use std::time::{Clock, Duration};
 /// How long an answer of the adapter is waited for, in seconds.
 const ANSWER_WITHIN: u64 = 30;
 
-/// Serves a log that others write too, which an adapter tells on the reader, and to which it is asked to append on the writer: the base, then
-/// what stands behind it; the nodes listen once all of it was taken in that was told before `ready`.
+/// Serves a log that others write too, which an adapter tells on the reader, and to which it is asked to append on the writer: the base,
+/// then what stands behind it; the ports listen once all of it was taken in that was told before `ready`. A port has from 2 to 16 workers,
+/// of which all but one may wait for the log. Connections and requests of all ports are counted in the traffic, and what is said to the adapter
+/// and by it is overheard.
 ///
-/// With a limit the call returns once all nodes have ended. Without one it returns once the adapter tells no more: at the end of the input that
-/// is no error, if `ready` was told; and where the base can't be served, or the nodes can't be started.
+/// With a limit the call returns once all ports have ended. Without one it returns once the adapter tells no more: at the end of the input
+/// that is no error, if `ready` was told; and where the base can't be served, or the ports can't be started.
 pub fn serve_joined<
     B: BufRead + Send + Drop + 'static,
-    W: Write + Send + Drop + 'static,
+    O: Write + Send + Drop + 'static,
     R: Threads + Wait + Clock + Net + RandomSource + Sync + Send + Copy + Drop + 'static,
-    E: JoinEndpoints + Sync,
+    H: Overhear + Send + Sync + Drop + 'static,
+    W: Watch + Sync,
+    E: Endpoints,
 >(
     rt: R,
     alloc: Global,
-    size: JoinSize,
+    size: Size,
     reader: B,
-    writer: W,
-    endpoints: &E,
+    writer: O,
+    overhear: &Arc<H, Global>,
+    traffic: &Traffic,
+    watch: &W,
+    endpoints: &mut E,
 ) -> Result<(), JoinError> {
     let mut device = Device::new(reader);
     let log = read_base(alloc, &mut device)?;
@@ -63,22 +71,25 @@ pub fn serve_joined<
         reader: device.into_inner(),
         writer,
     });
-    serve_base::<Brand, B, W, R, E>(
+    serve_base::<Brand, B, O, R, H, W, E>(
         &rt,
         alloc,
-        size,
+        joined_size(size),
         Unnamed::new(),
         log,
         &mut adapter,
+        overhear,
+        traffic,
+        watch,
         endpoints,
     )
 }
 
 /// Where the adapter's messages come from, and where requests go.
 #[derive(Drop)]
-struct Adapter<B: Drop, W: Drop> {
+struct Adapter<B: Drop, O: Drop> {
     reader: B,
-    writer: W,
+    writer: O,
 }
 
 /// Opens the pen over a base, starts to talk with the adapter, and goes on with the history.
@@ -87,30 +98,36 @@ struct Adapter<B: Drop, W: Drop> {
 fn serve_base<
     N: FeedName<Item, Shared> + Send + Sync,
     B: BufRead + Send + Drop + 'static,
-    W: Write + Send + Drop + 'static,
+    O: Write + Send + Drop + 'static,
     R: Threads + Wait + Clock + Net + RandomSource + Sync + Send + Copy + Drop + 'static,
-    E: JoinEndpoints + Sync,
+    H: Overhear + Send + Sync + Drop + 'static,
+    W: Watch + Sync,
+    E: Endpoints,
 >(
     rt: &R,
     alloc: Global,
-    size: JoinSize,
+    size: Size,
     list: Unnamed<Item>,
     log: Log,
-    adapter: &mut Option<Adapter<B, W>>,
-    endpoints: &E,
+    adapter: &mut Option<Adapter<B, O>>,
+    overhear: &Arc<H, Global>,
+    traffic: &Traffic,
+    watch: &W,
+    endpoints: &mut E,
 ) -> Result<(), JoinError>
     requires name { (list.reached.book ≡ N.book) × (N.first ≡ held_of (topic_from log.records.items log.next log.floor)) }
     requires settled { needs_mark (last_records (from_list log.records.items)) ≡ false }
 {
     let next = log.next;
     let Ends { line, chain, rest } = ends_behind(*rt, alloc, next)?;
-    let passes = size.desks() as u32 + 1;
-    let opened = open_base::<N, AdapterChain<R>, R>(*rt, alloc, list, log, chain, passes)?;
+    // A pass and a reader for each desk, and for what takes in.
+    let count = size.desks().saturating_add(1);
+    let opened = open_base::<N, AdapterChain<R>, R>(*rt, alloc, list, log, chain, count)?;
     let mut held = hold(alloc, opened, next, rest)?;
     if let Some(Adapter { reader, writer }) = adapter.take() {
-        start_talking(*rt, alloc, reader, writer, &line)?;
+        start_talking(*rt, alloc, reader, writer, &line, overhear)?;
     }
-    serve_history(rt, alloc, size, &line, &mut held, endpoints)
+    serve_history(rt, alloc, size, &line, &mut held, traffic, watch, endpoints)
 }
 
 /// The line to an adapter, and two ends of the chain behind it.
@@ -126,7 +143,7 @@ fn ends_behind<R: Wait + Clock + Copy + Drop>(
     rt: R,
     alloc: Global,
     next: u64,
-) -> Result<Ends<R>, JoinError>
+) -> Result<Ends<R>, ServiceError>
     ensures { IfOk result (λ ends. ends.chain ≡ []) }
 {
     let patience = Duration::from_secs(ANSWER_WITHIN);
@@ -155,12 +172,12 @@ fn hold<N: FeedName<Item, Shared>, C: Chain + Drop, R: Wait + Drop>(
     opened: OpenedBase<N, C, R>,
     next: u64,
     rest: C,
-) -> Result<Held<N, Stored<Item, Shared, N>, C, R>, JoinError> {
+) -> Result<Held<N, Stored<Item, Shared, N>, C, R>, ServiceError> {
     let OpenedBase {
         mut pen,
         mut passes,
     } = opened;
-    let pass = passes.pop().ok_or(JoinError::NoPlace)?;
+    let pass = passes.pop().ok_or(ServiceError::NoPlace)?;
     let list = pen.reader()?;
     let taker = Taker::new(alloc, pass, list, next, rest);
     Ok(Held {
@@ -170,66 +187,77 @@ fn hold<N: FeedName<Item, Shared>, C: Chain + Drop, R: Wait + Drop>(
     })
 }
 
-/// Takes in the history, and goes on with the nodes.
+/// Takes in the history, serves at the ports, and says why they ended: the end of the input is no error.
 fn serve_history<
     N: FeedName<Item, Shared> + Send + Sync,
     S: Copies<Item, Shared, N> + Send + Sync,
     C: Chain + Send + Drop,
     R: Threads + Wait + Clock + Net + RandomSource + Sync + Send + Copy + Drop,
-    E: JoinEndpoints + Sync,
+    W: Watch + Sync,
+    E: Endpoints,
 >(
     rt: &R,
     alloc: Global,
-    size: JoinSize,
+    size: Size,
     line: &AdapterLine,
     held: &mut Held<N, S, C, R>,
-    endpoints: &E,
+    traffic: &Traffic,
+    watch: &W,
+    endpoints: &mut E,
 ) -> Result<(), JoinError>
     requires floor { N.first.kept.floor ≤ N.first.next }
 {
-    take_history(
-        rt,
-        line,
-        held.taker.get_mut(),
-        held.pen.get_mut(),
-        endpoints,
-    )?;
-    serve_feed::<N, S, C, Brand, R, E>(rt, alloc, size, Unnamed::new(), line, held, endpoints)
+    take_history(rt, line, held.taker.get_mut(), held.pen.get_mut(), watch)?;
+    serve_held(rt, alloc, size, line, held, traffic, watch, endpoints)?;
+    match end_of(rt, line) {
+        LineEnd::Input => Ok(()),
+        end => Err(JoinError::Adapter(end)),
+    }
 }
 
-/// Makes the nodes' feed, and goes on with the nodes.
-fn serve_feed<
+/// Makes the desks, and serves at the ports, while what is told is taken in.
+fn serve_held<
+    'a,
     N: FeedName<Item, Shared> + Send + Sync,
     S: Copies<Item, Shared, N> + Send + Sync,
     C: Chain + Send + Drop,
-    M: FeedName<Draw, Taken> + Send + Sync,
     R: Threads + Wait + Clock + Net + RandomSource + Sync + Send + Copy + Drop,
-    E: JoinEndpoints + Sync,
+    W: Watch + Sync,
+    E: Endpoints,
 >(
-    rt: &R,
+    rt: &'a R,
     alloc: Global,
-    size: JoinSize,
-    list: Unnamed<Draw>,
-    line: &AdapterLine,
+    size: Size,
+    line: &'a AdapterLine,
     held: &mut Held<N, S, C, R>,
-    endpoints: &E,
-) -> Result<(), JoinError>
-    requires name { (list.reached.book ≡ M.book) × (M.first ≡ empty) }
+    traffic: &Traffic,
+    watch: &'a W,
+    endpoints: &mut E,
+) -> Result<(), ServiceError>
     requires floor { N.first.kept.floor ≤ N.first.next }
 {
-    let pen = held.pen.get_mut();
-    let mut follower = make_follower::<N, S, C, M, R>(rt, alloc, list, pen, size.desks())?;
-    let mut parts = DeskParts {
-        passes: mem::replace(&mut held.passes, Vec::new(alloc)),
-        views: begin_to_follow(&mut follower, alloc, size.desks())?,
-        keys: RandomState::new(rt)?,
-    };
     let next = held.taker.get_mut().next();
-    let follower = Mutex::new(follower);
-    let crew = Crew {
+    let mut passes = mem::replace(&mut held.passes, Vec::new(alloc));
+    let keys = RandomState::new(rt)?;
+    let waits = waits_of(alloc, size)?;
+    let check = SharedCheck::new();
+    let following = Following {
+        rt,
+        line,
         pen: &held.pen,
         taker: &held.taker,
-        follower: &follower,
+        check: &check,
+        watch,
     };
-    serve_crew(rt, alloc, size, line, crew, &mut parts, next, endpoints)
+    let mut desks = make_desks(&following, alloc, size, &waits, &mut passes, keys)?;
+    serve_desks(
+        rt,
+        alloc,
+        size,
+        traffic,
+        &mut desks,
+        endpoints,
+        next,
+        Some(&following),
+    )
 }

@@ -1,41 +1,45 @@
 // The threads that read messages and write requests.
-use crate::error::JoinError;
-use reg_adapter_line::{AdapterLine, read_messages, send_requests};
+use reg_adapter_line::{AdapterLine, Overhear, read_messages, send_requests};
+use reg_service::ServiceError;
 use std::alloc::Global;
 use std::io::{BufRead, Write};
 use std::sync::{Arc, Wait};
 use std::thread::{self, Threads};
 use std::time::Clock;
 
-/// What a thread does beside the nodes.
+/// What a thread does beside the ports.
 trait Talk {
     fn run(&mut self, line: &AdapterLine);
 }
 
 /// Reads messages.
 #[derive(Drop)]
-struct Reading<B: Drop, R: Drop> {
+struct Reading<B: Drop, R: Drop, H: Drop> {
     rt: R,
     alloc: Global,
     reader: B,
+    overhear: Arc<H, Global>,
 }
 
-impl<B: BufRead + Drop, R: Wait + Clock + Drop> Talk for Reading<B, R> {
+impl<B: BufRead + Drop, R: Wait + Clock + Drop, H: Overhear + Drop> Talk for Reading<B, R, H> {
     fn run(&mut self, line: &AdapterLine) {
-        read_messages(&self.rt, self.alloc, &mut self.reader, line);
+        let overhear: &H = &self.overhear;
+        read_messages(&self.rt, self.alloc, &mut self.reader, line, overhear);
     }
 }
 
 /// Writes requests.
 #[derive(Drop)]
-struct Sending<W: Drop, R: Drop> {
+struct Sending<W: Drop, R: Drop, H: Drop> {
     rt: R,
     writer: W,
+    overhear: Arc<H, Global>,
 }
 
-impl<W: Write + Drop, R: Wait + Clock + Drop> Talk for Sending<W, R> {
+impl<W: Write + Drop, R: Wait + Clock + Drop, H: Overhear + Drop> Talk for Sending<W, R, H> {
     fn run(&mut self, line: &AdapterLine) {
-        send_requests(&self.rt, &mut self.writer, line);
+        let overhear: &H = &self.overhear;
+        send_requests(&self.rt, &mut self.writer, line, overhear);
     }
 }
 
@@ -44,27 +48,40 @@ pub(crate) fn start_talking<
     B: BufRead + Send + Drop + 'static,
     W: Write + Send + Drop + 'static,
     R: Threads + Wait + Clock + Send + Copy + Drop + 'static,
+    H: Overhear + Send + Sync + Drop + 'static,
 >(
     rt: R,
     alloc: Global,
     reader: B,
     writer: W,
     line: &Arc<AdapterLine, Global>,
-) -> Result<(), JoinError> {
+    overhear: &Arc<H, Global>,
+) -> Result<(), ServiceError> {
+    let reading = Reading {
+        rt,
+        alloc,
+        reader,
+        overhear: Arc::try_clone(overhear)?,
+    };
+    let sending = Sending {
+        rt,
+        writer,
+        overhear: Arc::try_clone(overhear)?,
+    };
     let heard = Arc::try_clone(line)?;
     let asked = Arc::try_clone(line)?;
-    start(&rt, Reading { rt, alloc, reader }, heard)?;
-    start(&rt, Sending { rt, writer }, asked)
+    start(&rt, reading, heard)?;
+    start(&rt, sending, asked)
 }
 
 fn start<R: Threads, T: Talk + Send + Drop + 'static>(
     rt: &R,
     talk: T,
     line: Arc<AdapterLine, Global>,
-) -> Result<(), JoinError> {
+) -> Result<(), ServiceError> {
     let mut talk = talk;
     match thread::spawn(rt, move || talk.run(&line)) {
         Ok(_thread) => Ok(()),
-        Err(_refused) => Err(JoinError::NotStarted),
+        Err(_refused) => Err(ServiceError::NotStarted),
     }
 }

@@ -13,7 +13,7 @@ mod stage;
 mod standing_page;
 mod traffic_page;
 
-pub use adapter::{AdapterReply, AdapterWord, WordFinder};
+pub use adapter::AdapterReply;
 pub use answering::answer_to;
 pub use asked::{PageRequest, asked_in};
 pub use endpoint::{Pages, serve_pages};

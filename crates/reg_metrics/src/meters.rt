@@ -1,5 +1,5 @@
 // Numbers of what processes have beside connections.
-use crate::adapter::{AdapterReply, AdapterWord};
+use crate::adapter::AdapterReply;
 use reg_meters::{Counter, Gauge, Mark, Seconds};
 
 /// How long a store counts as away from when it declined a check, in microseconds, if nothing else is known of it by then.
@@ -129,12 +129,13 @@ impl AdapterMeters {
         self.is_open.set(true);
     }
 
-    /// The adapter said that at that moment, which is `date` in microseconds since 1970. What becomes of batches is counted in `batches`.
-    pub fn hear(&self, batches: &BatchMeters, word: AdapterWord, now: u64, date: u64) {
-        let AdapterWord::Reply(reply) = word else {
-            self.is_declined.set(false);
-            return;
-        };
+    /// The adapter told a batch that others wrote: so the store is there.
+    pub fn hear_batch(&self) {
+        self.is_declined.set(false);
+    }
+
+    /// The adapter answered that at that moment, which is `date` in microseconds since 1970. What becomes of batches is counted in `batches`.
+    pub fn hear_reply(&self, batches: &BatchMeters, reply: AdapterReply, now: u64, date: u64) {
         let took = now.saturating_sub(self.asked.value());
         self.is_open.set(false);
         if self.is_check.is_set() {

@@ -7,7 +7,7 @@ use reg_desk::Gate;
 use reg_feed::{Copies, FeedName};
 use reg_node::{Draw, Taken};
 use reg_pen::{Keep, Pass};
-use reg_serve::{Follow, NodeServer, SharedDesk};
+use reg_serve::{Follow, NodeServer, Observe, SharedDesk};
 use reg_service::{Endpoints, ServiceError};
 use reg_shared::Shared;
 use reg_topic::Item;
@@ -40,9 +40,9 @@ pub(crate) fn make_first<
     endpoints: &mut E,
 ) -> Result<(), ServiceError> {
     let mut desks = desks_of(resources, passes, 0, first)?;
-    let server = server_of(resources, 0, first)?;
+    let servers = servers_of(resources, 0, first)?;
     make_second(
-        resources, passes, &server, &mut desks, second, third, endpoints,
+        resources, passes, &servers, &mut desks, second, third, endpoints,
     )
 }
 
@@ -51,7 +51,7 @@ fn make_second<
     'y,
     T1: Send + Drop + 'y,
     D1: SharedDesk<Standing = T1> + Send + Drop + 'y,
-    W1: Follow + Sync + Drop + 'y,
+    W1: Observe + Follow + Sync + Drop + 'y,
     N: FeedName<Item, Shared> + Send + Sync,
     S: Copies<Item, Shared, N> + Send + Sync,
     K: Keep + Send + Drop,
@@ -65,20 +65,20 @@ fn make_second<
 >(
     resources: &'y Resources<'y, N, S, K, R, G>,
     passes: &mut Vec<Pass<N>>,
-    first: &'y Option<NodeServer<'y, W1, T1>>,
+    first: &'y [NodeServer<'y, W1, T1>],
     first_desks: &mut Vec<D1>,
     second: &'y Option<Parts<N, S, M, U, R>>,
     third: &'y Option<Parts<N, S, O, V, R>>,
     endpoints: &mut E,
 ) -> Result<(), ServiceError> {
     let mut desks = desks_of(resources, passes, 1, second)?;
-    let server = server_of(resources, 1, second)?;
+    let servers = servers_of(resources, 1, second)?;
     make_third(
         resources,
         passes,
         first,
         first_desks,
-        &server,
+        &servers,
         &mut desks,
         third,
         endpoints,
@@ -90,10 +90,10 @@ fn make_third<
     'y,
     T1: Send + Drop + 'y,
     D1: SharedDesk<Standing = T1> + Send + Drop + 'y,
-    W1: Follow + Sync + Drop + 'y,
+    W1: Observe + Follow + Sync + Drop + 'y,
     T2: Send + Drop + 'y,
     D2: SharedDesk<Standing = T2> + Send + Drop + 'y,
-    W2: Follow + Sync + Drop + 'y,
+    W2: Observe + Follow + Sync + Drop + 'y,
     N: FeedName<Item, Shared> + Send + Sync,
     S: Copies<Item, Shared, N> + Send + Sync,
     K: Keep + Send + Drop,
@@ -105,22 +105,22 @@ fn make_third<
 >(
     resources: &'y Resources<'y, N, S, K, R, G>,
     passes: &mut Vec<Pass<N>>,
-    first: &'y Option<NodeServer<'y, W1, T1>>,
+    first: &'y [NodeServer<'y, W1, T1>],
     first_desks: &mut Vec<D1>,
-    second: &'y Option<NodeServer<'y, W2, T2>>,
+    second: &'y [NodeServer<'y, W2, T2>],
     second_desks: &mut Vec<D2>,
     third: &'y Option<Parts<N, S, O, V, R>>,
     endpoints: &mut E,
 ) -> Result<(), ServiceError> {
     let mut desks = desks_of(resources, passes, 2, third)?;
-    let server = server_of(resources, 2, third)?;
+    let servers = servers_of(resources, 2, third)?;
     serve(
         resources.common,
         first,
         first_desks,
         second,
         second_desks,
-        &server,
+        &servers,
         &mut desks,
         endpoints,
     )
@@ -161,8 +161,8 @@ fn desks_of<
     )
 }
 
-/// The server of the node of that number, if it has parts.
-fn server_of<
+/// The server of the node of that number; none where it has no parts.
+fn servers_of<
     'y,
     N: FeedName<Item, Shared>,
     S: Copies<Item, Shared, N>,
@@ -176,10 +176,11 @@ fn server_of<
     resources: &'y Resources<'y, N, S, K, R, G>,
     number: usize,
     parts: &'y Option<Parts<N, S, M, U, R>>,
-) -> Result<Option<NodeServer<'y, Following<'y, N, S, M, U, R>, T>>, ServiceError> {
-    let Some(parts) = parts else {
-        return Ok(None);
-    };
+) -> Result<Vec<NodeServer<'y, Following<'y, N, S, M, U, R>, T>>, ServiceError> {
     let (common, listeners) = (resources.common, resources.listeners);
-    Ok(Some(make_server(common, listeners, number, &parts.follower)?))
+    let mut servers = Vec::new(common.alloc);
+    if let Some(parts) = parts {
+        servers.push(make_server(common, listeners, number, &parts.follower)?)?;
+    }
+    Ok(servers)
 }

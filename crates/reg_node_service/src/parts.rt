@@ -4,9 +4,8 @@ ghost use Rattle.std.specs.FinSet.{empty};
 
 use crate::common::{Common, Others};
 use crate::following::Following;
-use reg_desk::{Gate, NodeDesk};
+use reg_desk::{Gate, NodeDesk, desk_judge};
 use reg_feed::{Copies, FeedName, FeedReader, Stored, Unnamed, feed};
-use reg_judge::Judge;
 use reg_node::{Draw, Follower, NodeView, Taken};
 use reg_pen::{Keep, Pass, Pen};
 use reg_serve::NodeServer;
@@ -16,12 +15,6 @@ use reg_topic::Item;
 use std::alloc::Global;
 use std::net::{Net, TcpListener};
 use std::sync::{Mutex, Wait};
-
-/// How many schemas the judge of a desk keeps.
-const SCHEMAS: usize = 256;
-
-/// How many verdicts the judge of a desk keeps.
-const VERDICTS: usize = 1_024;
 
 /// What nodes that aren't made yet have of the topic.
 #[derive(Drop)]
@@ -166,7 +159,7 @@ pub(crate) fn make_desks<
     let mut desks = Vec::new(alloc);
     for view in views {
         let pass = passes.pop().ok_or(ServiceError::NoPlace)?;
-        let judge = Judge::new(alloc, common.keys, SCHEMAS, VERDICTS)?;
+        let judge = desk_judge(alloc, common.keys)?;
         let desk = NodeDesk::new(
             common.rt,
             pen,

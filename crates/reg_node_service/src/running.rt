@@ -1,6 +1,8 @@
-// Threads over one, two or three nodes, of which each has types of its own.
+// Threads over one, two or three nodes, of which each has types of its own. The server of a node that isn't there is none.
 use crate::common::Common;
-use reg_serve::{Follow, NodeServer, SharedDesk, StartError, begin, follow_list, open_node};
+use reg_serve::{
+    Follow, NodeServer, Observe, SharedDesk, StartError, begin, follow_list, open_node,
+};
 use reg_service::{Endpoints, ServiceError};
 use std::mem;
 use std::sync::Wait;
@@ -13,23 +15,23 @@ pub(crate) fn serve<
     's,
     T1: Send + Drop + 's,
     D1: SharedDesk<Standing = T1> + Send + Drop + 's,
-    W1: Follow + Sync + Drop + 's,
+    W1: Observe + Follow + Sync + Drop + 's,
     T2: Send + Drop + 's,
     D2: SharedDesk<Standing = T2> + Send + Drop + 's,
-    W2: Follow + Sync + Drop + 's,
+    W2: Observe + Follow + Sync + Drop + 's,
     T3: Send + Drop + 's,
     D3: SharedDesk<Standing = T3> + Send + Drop + 's,
-    W3: Follow + Sync + Drop + 's,
+    W3: Observe + Follow + Sync + Drop + 's,
     R: Threads + Wait + Clock + Sync,
     G,
     E: Endpoints,
 >(
     common: &'s Common<'s, R, G>,
-    first: &'s Option<NodeServer<'s, W1, T1>>,
+    first: &'s [NodeServer<'s, W1, T1>],
     first_desks: &mut Vec<D1>,
-    second: &'s Option<NodeServer<'s, W2, T2>>,
+    second: &'s [NodeServer<'s, W2, T2>],
     second_desks: &mut Vec<D2>,
-    third: &'s Option<NodeServer<'s, W3, T3>>,
+    third: &'s [NodeServer<'s, W3, T3>],
     third_desks: &mut Vec<D3>,
     endpoints: &mut E,
 ) -> Result<(), ServiceError> {
@@ -47,7 +49,8 @@ pub(crate) fn serve<
                 third,
                 third_desks,
             );
-            begin(common.latch, started, || endpoints.ready())?;
+            // An empty topic goes on at offset 0.
+            begin(common.latch, started, || endpoints.ready(0))?;
             Ok(())
         },
     )
@@ -59,23 +62,23 @@ fn start_nodes<
     X,
     T1: Send + Drop + 's,
     D1: SharedDesk<Standing = T1> + Send + Drop + 's,
-    W1: Follow + Sync + Drop + 's,
+    W1: Observe + Follow + Sync + Drop + 's,
     T2: Send + Drop + 's,
     D2: SharedDesk<Standing = T2> + Send + Drop + 's,
-    W2: Follow + Sync + Drop + 's,
+    W2: Observe + Follow + Sync + Drop + 's,
     T3: Send + Drop + 's,
     D3: SharedDesk<Standing = T3> + Send + Drop + 's,
-    W3: Follow + Sync + Drop + 's,
+    W3: Observe + Follow + Sync + Drop + 's,
     R: Threads + Wait + Clock + Sync,
     G,
 >(
     scope: &Scope<'s, X>,
     common: &'s Common<'s, R, G>,
-    first: &'s Option<NodeServer<'s, W1, T1>>,
+    first: &'s [NodeServer<'s, W1, T1>],
     first_desks: &mut Vec<D1>,
-    second: &'s Option<NodeServer<'s, W2, T2>>,
+    second: &'s [NodeServer<'s, W2, T2>],
     second_desks: &mut Vec<D2>,
-    third: &'s Option<NodeServer<'s, W3, T3>>,
+    third: &'s [NodeServer<'s, W3, T3>],
     third_desks: &mut Vec<D3>,
 ) -> Result<(), StartError> {
     start_node(scope, common, first, first_desks)?;
@@ -89,27 +92,20 @@ fn start_node<
     X,
     T: Send + Drop + 's,
     D: SharedDesk<Standing = T> + Send + Drop + 's,
-    W: Follow + Sync + Drop + 's,
+    W: Observe + Follow + Sync + Drop + 's,
     R: Threads + Wait + Clock + Sync + 's,
     G,
 >(
     scope: &Scope<'s, X>,
     common: &'s Common<'s, R, G>,
-    server: &'s Option<NodeServer<'s, W, T>>,
+    servers: &'s [NodeServer<'s, W, T>],
     desks: &mut Vec<D>,
 ) -> Result<(), StartError> {
-    let Some(server) = server else {
+    let (rt, alloc, latch) = (common.rt, common.alloc, common.latch);
+    let Some(server) = servers.first() else {
         return Ok(());
     };
-    let desks = mem::replace(desks, Vec::new(common.alloc));
-    open_node(
-        scope,
-        common.rt,
-        common.alloc,
-        common.latch,
-        server,
-        desks,
-        common.limit,
-    )?;
-    follow_list(scope, common.rt, common.latch, server)
+    let desks = mem::replace(desks, Vec::new(alloc));
+    open_node(scope, rt, alloc, latch, server, desks, common.limit)?;
+    follow_list(scope, rt, latch, servers, server.observer())
 }

@@ -3,6 +3,7 @@ pub mod Claims
 pub mod Deeds
 pub mod Desks
 pub mod Drawn
+pub mod Kept
 pub mod Lists
 pub mod Pens
 pub mod Steps

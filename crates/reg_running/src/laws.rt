@@ -3,6 +3,7 @@
 ghost use Rattle.reg_running.specs.Bytes.{RunningNodesWriteAlike, SameBytes};
 ghost use Rattle.reg_running.specs.Calls.{ActsAddUp, ActsAreLawful, CallsKeepPens, CompactionsAreActs, DesksDoActs, FollowersAreNodes, LawfulListsAreOfActs, SubmitsAreActs, ViewsTellForNodes};
 ghost use Rattle.reg_running.specs.Claims.{ClaimsHoldAtEachMoment, MomentsAreAfterEvents, RunningNodesAnswerAlike, RunningNodesKeepPromises, SameAnswersAtMoments};
+ghost use Rattle.reg_running.specs.Kept.{CallsStayKept, PensBeginKept, SeenBatchesAreTaken};
 ghost use Rattle.reg_running.specs.Woven.{RunningNodesAreAWorld, RunningNodesAreWoven};
 
 use reg_alike::compactions_answer_alike;
@@ -66,6 +67,15 @@ pub fn pens_do_acts<K: Keep>()
     ensures compactions { CompactionsAreActs K }
     ensures in_turn { ActsAddUp }
     ensures stays { CallsKeepPens K.keeps }
+{}
+
+/// A pen publishes no batch that its keep hasn't taken. At its beginning and after each submit and each compaction, the batches
+/// that the keep has taken since the beginning are exactly those of the published list, in its order, and then the pending one, unless that
+/// is lost. So whoever saw a front of the list saw only batches that were taken by then. A keep that `lend_keep` changes is beyond this.
+pub fn pens_keep_what_they_publish<K: Keep>()
+    ensures begins { PensBeginKept K.keeps }
+    ensures stays { CallsStayKept K.keeps }
+    ensures seen { SeenBatchesAreTaken K.keeps }
 {}
 
 /// What a desk's command adds to the topic's list are acts, of which its client got the reply, and then those of

@@ -1,5 +1,5 @@
-//! Nodes that serve HTTP over sockets. A poller holds the connections of a node and reads what arrives;
-//! workers answer the requests that are whole; where a node has a list of its own, a thread follows another one for it.
+//! Nodes that serve HTTP over sockets. A poller holds the connections of a node and reads what arrives; workers answer the requests that
+//! are whole; where something has to be brought to the nodes, a thread follows it for them.
 #![tactic(auto)]
 
 mod answered;
@@ -15,7 +15,7 @@ mod worker;
 
 pub use latch::Latch;
 pub use listening::{ListenError, listen};
-pub use nodes::{Follow, NodeServer, Observe, StartError, begin, follow_list, open_node};
+pub use nodes::{Follow, NodeServer, Observe, StartError, Watched, begin, follow_list, open_node};
 pub use queues::Queues;
 pub use reg_connection::Limits;
 pub use reg_conversation::SharedDesk;

@@ -1,4 +1,4 @@
-// Nodes: where each listens, its poller, its workers, and the thread that follows a list for it.
+// Nodes: where each listens, its poller, its workers, and the thread that follows a list for them.
 ghost use Rattle.std.specs.Prelude.{true, IsOk, OnOk};
 
 use crate::latch::Latch;
@@ -17,7 +17,7 @@ use std::sync::{Mutex, Wait};
 use std::thread::{Parker, Scope, Threads};
 use std::time::{Clock, Duration};
 
-/// How long a node's follower waits at most, in milliseconds.
+/// How long a thread that follows a list waits at most, in milliseconds.
 const FOLLOW_WITHIN: u64 = 50;
 
 /// What the threads of a node tell.
@@ -29,22 +29,39 @@ pub trait Observe {
     fn thread_ended(&self);
 }
 
-/// Connections and requests are counted there, and nobody waits for the end of threads.
-impl Observe for &Traffic {
-    fn traffic(&self) -> &Traffic {
-        self
-    }
-
-    fn thread_ended(&self) {}
+/// Counts a node's connections and requests, and wakes whoever waits for the end of its threads.
+#[derive(Drop)]
+pub struct Watched<'a> {
+    traffic: &'a Traffic,
+    ended: Option<&'a Parker>,
 }
 
-/// Follows a list for a node. One thread of the node calls `follow` each time that `grown` was unparked, and 50 ms after its last call
-/// at the latest. The end of the node's other threads has to unpark it.
-pub trait Follow: Observe {
-    /// Brings what is new of the list to the node.
+impl<'a> Watched<'a> {
+    /// Counts there, and unparks that one, if one is given, at the end of each thread.
+    pub fn new(traffic: &'a Traffic, ended: Option<&'a Parker>) -> Watched<'a> {
+        Watched { traffic, ended }
+    }
+}
+
+impl Observe for Watched<'_> {
+    fn traffic(&self) -> &Traffic {
+        self.traffic
+    }
+
+    fn thread_ended(&self) {
+        if let Some(ended) = self.ended {
+            ended.unpark();
+        }
+    }
+}
+
+/// Follows a list for nodes. One thread calls `follow` each time that `grown` was unparked, and 50 ms after its last call at the latest.
+/// The end of the nodes' other threads has to unpark it.
+pub trait Follow {
+    /// Brings what is new of the list to the nodes.
     fn follow(&self);
 
-    /// Whether the node is to end, though its clients go on. It is asked after each call of `follow`.
+    /// Whether the nodes are to end, though their clients go on. It is asked after each call of `follow`.
     fn is_over(&self) -> bool;
 
     /// Whoever makes the list grow unparks it; nobody else parks on it.
@@ -60,7 +77,7 @@ pub struct NodeServer<'a, F: Drop, T: Drop> {
     limits: Limits,
     shared: SharedState<T>,
     poll: Mutex<Poll>,
-    /// How many of its threads but the follower's haven't ended.
+    /// How many of its threads haven't ended.
     at_work: AtomicU64,
 }
 
@@ -85,6 +102,11 @@ impl<'a, F: Drop, T: Drop> NodeServer<'a, F, T> {
             poll: Mutex::new(poll),
             at_work: AtomicU64::new(0),
         })
+    }
+
+    /// What its threads tell.
+    pub fn observer(&self) -> &F {
+        &self.observer
     }
 }
 
@@ -139,15 +161,26 @@ pub fn open_node<
     Ok(())
 }
 
-/// Starts the thread of a node's follower, which waits at the latch, and ends once the node's other threads have ended. The node ends once
-/// its follower says that it is over. Fails where the thread can't be made.
-pub fn follow_list<'s, E, R: Wait + Sync + 's, T: Send + Drop + 's, F: Follow + Sync + Drop + 's>(
+/// Starts the thread that follows a list for the nodes, which waits at the latch, and ends once their other threads have ended. The nodes
+/// end once it says that it is over. Fails where the thread can't be made.
+pub fn follow_list<
+    's,
+    E,
+    R: Wait + Sync + 's,
+    T: Send + Drop + 's,
+    F: Sync + Drop + 's,
+    W: Follow + Sync + 's,
+>(
     scope: &Scope<'s, E>,
     rt: &'s R,
     latch: &'s Latch,
-    node: &'s NodeServer<'s, F, T>,
+    nodes: &'s [NodeServer<'s, F, T>],
+    follow: &'s W,
 ) -> Result<(), StartError> {
-    if scope.spawn(move || follow_at(rt, latch, node)).is_err() {
+    if scope
+        .spawn(move || follow_at(rt, latch, nodes, follow))
+        .is_err()
+    {
         return Err(StartError);
     }
     Ok(())
@@ -197,25 +230,40 @@ fn leave_work<T: Drop, F: Observe + Drop>(node: &NodeServer<'_, F, T>) {
     node.observer.thread_ended();
 }
 
-/// What a follower's thread does, until all others have ended.
-fn follow_at<R: Wait, T: Drop, F: Follow + Drop>(
+/// What the thread does that follows a list, until all others have ended.
+fn follow_at<R: Wait, T: Drop, F: Drop, W: Follow>(
     rt: &R,
     latch: &Latch,
-    node: &NodeServer<'_, F, T>,
+    nodes: &[NodeServer<'_, F, T>],
+    follow: &W,
 ) {
     if !latch.pass(rt) {
         return;
     }
     let within = Duration::from_millis(FOLLOW_WITHIN);
     for _ in rt.forever() {
-        if node.at_work.load(Ordering::SeqCst) == 0 {
+        if !are_at_work(nodes) {
             break;
         }
-        node.observer.grown().park_timeout(rt, within);
-        node.observer.follow();
-        if node.observer.is_over() {
-            node.shared.close();
+        follow.grown().park_timeout(rt, within);
+        follow.follow();
+        if follow.is_over() {
+            close_all(nodes);
         }
+    }
+}
+
+/// Whether a thread of one of the nodes hasn't ended.
+fn are_at_work<T: Drop, F: Drop>(nodes: &[NodeServer<'_, F, T>]) -> bool {
+    nodes
+        .iter()
+        .any(|node| node.at_work.load(Ordering::SeqCst) != 0)
+}
+
+/// The nodes are to end.
+fn close_all<T: Drop, F: Drop>(nodes: &[NodeServer<'_, F, T>]) {
+    for node in nodes {
+        node.shared.close();
     }
 }
 

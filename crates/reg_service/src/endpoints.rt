@@ -6,13 +6,12 @@ use std::net::TcpListener;
 
 /// Where the nodes are reached.
 pub trait Endpoints {
-    /// Where nodes listen, the first node at the first one. Called once, after each node has read the
-    /// log.
+    /// Where nodes listen, the first node at the first one. Called once, after the log was read.
     fn listen(&mut self) -> Result<Vec<TcpListener>, ServiceError>;
 
-    /// All threads are there, and begin where this says so. Called once, or not at all where a thread
-    /// was refused.
-    fn ready(&mut self) -> bool;
+    /// All threads are there, and begin where this says so. `reached` says how far the log was read by then: its next offset, or where
+    /// lines are followed how many. Called once, or not at all where a thread was refused.
+    fn ready(&mut self, reached: u64) -> bool;
 }
 
 /// Listeners that are there already.
@@ -34,7 +33,7 @@ impl Endpoints for Listening {
         Ok(mem::replace(&mut self.listeners, Vec::new(self.alloc)))
     }
 
-    fn ready(&mut self) -> bool {
+    fn ready(&mut self, _reached: u64) -> bool {
         true
     }
 }

@@ -1,8 +1,7 @@
 // Why nodes can't be started.
-use reg_desk::JudgeError;
+use reg_desk::{JudgeError, Lack, OpenError};
 use reg_feed::NoPlace;
 use reg_leader::AdoptError;
-use reg_pen::{Lack, OpenError};
 use reg_records::LogError;
 use reg_serve::{ListenError, StartError};
 use std::alloc::{AllocError, AllocFailed};

@@ -1,17 +1,17 @@
-//! A log over sockets: its pen, one list, and for each port a poller, workers and their desks.
+//! A process that serves a log over sockets: ports, each with a poller and workers, whose desks all answer from one list, and of a log that
+//! is kept the pen that publishes it.
 #![tactic(auto)]
 
+mod desks;
 mod endpoints;
 mod error;
-mod gate;
 mod ports;
 mod serving;
 mod size;
 
 pub use endpoints::{Endpoints, Listening};
 pub use error::ServiceError;
-pub use gate::NoGate;
-pub use reg_desk::Gate;
-pub use reg_serve::listen;
+pub use ports::serve_desks;
+pub use reg_serve::{Desk, Follow, listen};
 pub use serving::serve_log;
 pub use size::{NODES_LIMIT, Size};

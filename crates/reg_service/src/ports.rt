@@ -1,126 +1,152 @@
-// What the ports of a log are made of.
-ghost use Rattle.std.specs.Prelude.{◌≤◌};
-
+// The ports of a process, which all answer from one list, and their threads.
+use crate::endpoints::Endpoints;
 use crate::error::ServiceError;
 use crate::size::Size;
-use reg_desk::{FeedDesk, Gate, Judge, PenCommander, View};
-use reg_feed::{Copies, FeedName, Seen};
 use reg_meters::Traffic;
-use reg_pen::{Keep, Pass, Pen};
-use reg_serve::{Limits, NodeServer};
-use reg_shared::Shared;
-use reg_topic::Item;
+use reg_serve::{
+    Follow, Latch, Limits, NodeServer, SharedDesk, StartError, Watched, begin, follow_list,
+    open_node,
+};
 use std::alloc::Global;
-use std::hash::RandomState;
 use std::net::{Net, TcpListener};
-use std::sync::atomic::AtomicU64;
-use std::sync::{Mutex, Wait};
+use std::sync::Wait;
+use std::thread::{self, Parker, Scope, Threads};
+use std::time::Clock;
 
-/// How many schemas the judge of a desk keeps.
-const SCHEMAS: usize = 256;
+/// A port, whose answers stand on fronts of that type.
+type Port<'a, T> = NodeServer<'a, Watched<'a>, T>;
 
-/// How many verdicts the judge of a desk keeps.
-const VERDICTS: usize = 1_024;
-
-/// What all desks of all ports share.
-#[derive(Drop)]
-pub(crate) struct Common<
-    'a,
-    N: FeedName<Item, Shared>,
-    S: Copies<Item, Shared, N>,
-    K: Keep + Drop,
-    R: Wait + Drop,
-    G,
-> {
-    pub(crate) rt: &'a R,
-    pub(crate) alloc: Global,
-    pub(crate) pen: &'a Mutex<Pen<N, S, K, R>>,
-    pub(crate) gate: &'a G,
-    /// How many calls of desks there were.
-    pub(crate) calls: &'a AtomicU64,
-}
-
-/// What desks are made of: a pass and a view each, and the keys under which their judges find texts.
-#[derive(Drop)]
-pub(crate) struct DeskParts<N: FeedName<Item, Shared>, S: Copies<Item, Shared, N>> {
-    pub(crate) passes: Vec<Pass<N>>,
-    pub(crate) views: Vec<View<Item, Shared, N, S>>,
-    pub(crate) keys: RandomState,
-}
-
-/// A desk that answers from the log's own list, and submits to its pen.
-pub(crate) type LogDesk<'a, N, S, K, R, G> = FeedDesk<
-    'a,
-    Item,
-    Shared,
-    N,
-    S,
-    PenCommander<'a, N, S, K, R>,
-    G,
->;
-
-/// A port over the log's own list: its traffic is counted, and its answers stand on fronts of the list.
-pub(crate) type Port<'a, N> = NodeServer<'a, &'a Traffic, Seen<Item, Shared, N>>;
-
-/// So many views of the pen's list.
-pub(crate) fn views_of<
-    N: FeedName<Item, Shared>,
-    S: Copies<Item, Shared, N>,
-    K: Keep + Drop,
-    R: Wait + Drop,
+/// Serves by the desks at so many ports, each with a poller, which holds the connections, and workers, of which each has a desk: the first
+/// port takes the last ones. Connections and requests of all ports are counted in the traffic; `ready` is told what was reached. Where
+/// something is to be followed, one thread does it for all ports, which end once it is over.
+///
+/// With a limit the call returns once all ports have ended. It fails where they can't be started.
+pub fn serve_desks<
+    T: Send + Drop,
+    D: SharedDesk<Standing = T> + Send + Drop,
+    R: Threads + Wait + Clock + Net + Sync,
+    E: Endpoints,
+    W: Follow + Sync,
 >(
-    pen: &mut Pen<N, S, K, R>,
+    rt: &R,
     alloc: Global,
-    count: u32,
-) -> Result<Vec<View<Item, Shared, N, S>>, ServiceError>
-    requires { N.first.kept.floor ≤ N.first.next }
-{
-    let mut views = Vec::new(alloc);
-    for _view in 0..count {
-        let reader = pen.reader()?;
-        views.push(View::new(alloc, reader))?;
-    }
-    Ok(views)
-}
-
-/// So many desks.
-pub(crate) fn make_desks<
-    'a,
-    N: FeedName<Item, Shared>,
-    S: Copies<Item, Shared, N>,
-    K: Keep + Drop,
-    R: Wait + Drop,
-    G: Gate,
->(
-    common: &Common<'a, N, S, K, R, G>,
-    count: u32,
-    parts: &mut DeskParts<N, S>,
-) -> Result<Vec<LogDesk<'a, N, S, K, R, G>>, ServiceError> {
-    let alloc = common.alloc;
-    let mut desks = Vec::new(alloc);
-    for _desk in 0..count {
-        let pass = parts.passes.pop().ok_or(ServiceError::NoPlace)?;
-        let view = parts.views.pop().ok_or(ServiceError::NoPlace)?;
-        let judge = Judge::new(alloc, parts.keys, SCHEMAS, VERDICTS)?;
-        let commander = PenCommander::new(common.rt, common.pen, pass);
-        desks.push(FeedDesk::new(common.gate, common.calls, commander, view, judge))?;
-    }
-    Ok(desks)
+    size: Size,
+    traffic: &Traffic,
+    desks: &mut Vec<D>,
+    endpoints: &mut E,
+    reached: u64,
+    follow: Option<&W>,
+) -> Result<(), ServiceError> {
+    let listeners = endpoints.listen()?;
+    let ended = follow.map(|follow| follow.grown());
+    let ports = make_ports::<T, R>(rt, alloc, size, traffic, ended, &listeners)?;
+    let latch = Latch::new();
+    run_ports(
+        rt, alloc, &latch, size, &ports, desks, endpoints, reached, follow,
+    )
 }
 
 /// The ports, which aren't opened yet: one for each listener.
-pub(crate) fn make_ports<'a, N: FeedName<Item, Shared>, R: Net>(
+fn make_ports<'a, T: Drop, R: Net>(
     net: &R,
     alloc: Global,
     size: Size,
     traffic: &'a Traffic,
+    ended: Option<&'a Parker>,
     listeners: &'a [TcpListener],
-) -> Result<Vec<Port<'a, N>>, ServiceError> {
+) -> Result<Vec<Port<'a, T>>, ServiceError> {
     let limits = Limits::of_nodes(size.ports());
     let workers = size.port_workers() as usize;
     let mut ports = Vec::new(alloc);
     for listener in listeners {
-        ports.push(NodeServer::new(net, alloc, listener, traffic, workers, limits)?)?;
+        let watched = Watched::new(traffic, ended);
+        ports.push(NodeServer::new(net, alloc, listener, watched, workers, limits)?)?;
     }
     Ok(ports)
+}
+
+/// Starts all threads, lets them begin, and returns once all have ended.
+fn run_ports<
+    's,
+    T: Send + Drop + 's,
+    D: SharedDesk<Standing = T> + Send + Drop + 's,
+    R: Threads + Wait + Clock + Sync + 's,
+    E: Endpoints,
+    W: Follow + Sync + 's,
+>(
+    rt: &'s R,
+    alloc: Global,
+    latch: &'s Latch,
+    size: Size,
+    ports: &'s [Port<'s, T>],
+    desks: &mut Vec<D>,
+    endpoints: &mut E,
+    reached: u64,
+    follow: Option<&'s W>,
+) -> Result<(), ServiceError> {
+    thread::scope(
+        thread::scope_env(),
+        rt,
+        |scope| -> Result<(), ServiceError> {
+            let started = start_threads(scope, rt, alloc, latch, size, ports, desks, follow);
+            begin(latch, started, || endpoints.ready(reached))?;
+            Ok(())
+        },
+    )
+}
+
+/// Starts the threads of all ports, and the one that follows for them, if there is one.
+fn start_threads<
+    's,
+    X,
+    T: Send + Drop + 's,
+    D: SharedDesk<Standing = T> + Send + Drop + 's,
+    R: Threads + Wait + Clock + Sync + 's,
+    W: Follow + Sync + 's,
+>(
+    scope: &Scope<'s, X>,
+    rt: &'s R,
+    alloc: Global,
+    latch: &'s Latch,
+    size: Size,
+    ports: &'s [Port<'s, T>],
+    desks: &mut Vec<D>,
+    follow: Option<&'s W>,
+) -> Result<(), StartError> {
+    open_ports(scope, rt, alloc, latch, size, ports, desks)?;
+    match follow {
+        Some(follow) => follow_list(scope, rt, latch, ports, follow),
+        None => Ok(()),
+    }
+}
+
+/// Starts the threads of each port, with as many of the desks as it has workers.
+fn open_ports<
+    's,
+    X,
+    T: Send + Drop + 's,
+    D: SharedDesk<Standing = T> + Send + Drop + 's,
+    R: Threads + Wait + Clock + Sync + 's,
+>(
+    scope: &Scope<'s, X>,
+    rt: &'s R,
+    alloc: Global,
+    latch: &'s Latch,
+    size: Size,
+    ports: &'s [Port<'s, T>],
+    desks: &mut Vec<D>,
+) -> Result<(), StartError> {
+    for port in ports {
+        let mut own = Vec::new(alloc);
+        for _worker in 0..size.port_workers() {
+            let Some(desk) = desks.pop() else {
+                return Err(StartError);
+            };
+            if own.push(desk).is_err() {
+                return Err(StartError);
+            }
+        }
+        open_node(scope, rt, alloc, latch, port, own, size.connections())?;
+    }
+    Ok(())
 }

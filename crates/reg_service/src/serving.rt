@@ -1,17 +1,17 @@
-// A log and the ports at which it is served.
-ghost use Rattle.std.specs.Prelude.{◌≡◌};
+// A log, served by its pen and the list that this publishes.
+ghost use Rattle.std.specs.Prelude.{◌≡◌, ◌≤◌};
 ghost use Rattle.reg_topic.specs.Topic.{topic_from};
 ghost use Rattle.reg_shared.specs.Held.{held_of};
 
+use crate::desks::make_desks;
 use crate::endpoints::Endpoints;
 use crate::error::ServiceError;
-use crate::ports::{Common, DeskParts, make_desks, make_ports, views_of};
+use crate::ports::serve_desks;
 use crate::size::Size;
-use reg_desk::Gate;
+use reg_desk::{Keep, KeptLog, Opened, Pass, Pen, open};
 use reg_feed::{Copies, FeedName, Unnamed};
 use reg_meters::Traffic;
-use reg_pen::{Keep, KeptLog, Opened, Pen, open};
-use reg_serve::{Latch, NodeServer, Observe, SharedDesk, StartError, begin, open_node};
+use reg_serve::Follow;
 use reg_shared::Shared;
 use reg_topic::Item;
 use std::alloc::Global;
@@ -19,55 +19,40 @@ use std::hash::RandomState;
 use std::marker::Brand;
 use std::net::Net;
 use std::random::RandomSource;
-use std::sync::atomic::AtomicU64;
 use std::sync::{Mutex, Wait};
-use std::thread::{self, Scope, Threads};
+use std::thread::{Parker, Threads};
 use std::time::Clock;
 
 /// Serves a log, whose batches are lent to the keep at its end, at so many ports, each with a poller, which holds the connections, and
 /// workers. All of them answer from the one list that the log's pen publishes: what a command wrote is shown at each port once it is
-/// replied to. A worker calls the gate before it answers a query or does a command. Connections and requests of all ports are counted in
-/// the traffic. The log has been read before a port listens.
+/// replied to. Connections and requests of all ports are counted in the traffic. The log has been read before a port listens.
 ///
 /// With a limit the call returns once all ports have ended. Without one it returns only where they can't be started.
 pub fn serve_log<
     K: Keep + Send + Drop,
     R: Threads + Wait + Clock + Net + RandomSource + Sync + Send + Copy + Drop,
-    G: Gate + Sync,
     E: Endpoints,
 >(
     rt: R,
     alloc: Global,
     size: Size,
-    gate: &G,
     traffic: &Traffic,
     endpoints: &mut E,
     kept: KeptLog<K>,
 ) -> Result<(), ServiceError> {
-    serve_list::<Brand, K, R, G, E>(
-        &rt,
-        alloc,
-        size,
-        gate,
-        traffic,
-        endpoints,
-        Unnamed::new(),
-        kept,
-    )
+    serve_list::<Brand, K, R, E>(&rt, alloc, size, traffic, endpoints, Unnamed::new(), kept)
 }
 
-/// Opens the pen over a log, and goes on with the ports.
+/// Opens the pen over a log, and goes on with the desks.
 fn serve_list<
     N: FeedName<Item, Shared> + Send + Sync,
     K: Keep + Send + Drop,
     R: Threads + Wait + Clock + Net + RandomSource + Sync + Send + Copy + Drop,
-    G: Gate + Sync,
     E: Endpoints,
 >(
     rt: &R,
     alloc: Global,
     size: Size,
-    gate: &G,
     traffic: &Traffic,
     endpoints: &mut E,
     list: Unnamed<Item>,
@@ -76,7 +61,8 @@ fn serve_list<
     requires name { (list.reached.book ≡ N.book) × (N.first ≡ held_of (topic_from kept.log.records.items kept.log.next kept.log.floor)) }
 {
     let count = size.desks();
-    let Opened { mut pen, passes } = open::<N, K, R>(
+    let reached = kept.log().next;
+    let Opened { pen, mut passes } = open::<N, K, R>(
         *rt,
         alloc,
         list,
@@ -84,102 +70,59 @@ fn serve_list<
         count,
         count as usize,
     )?;
-    let mut parts = DeskParts {
-        passes,
-        views: views_of(&mut pen, alloc, count)?,
-        keys: RandomState::new(rt)?,
-    };
     let pen = Mutex::new(pen);
-    let calls = AtomicU64::new(0);
-    let common = Common {
+    serve_pen(
         rt,
         alloc,
-        pen: &pen,
-        gate,
-        calls: &calls,
-    };
-    serve_ports(&common, size, traffic, &mut parts, endpoints)
-}
-
-/// Listens, and serves at all ports.
-fn serve_ports<
-    N: FeedName<Item, Shared> + Send + Sync,
-    S: Copies<Item, Shared, N> + Send + Sync,
-    K: Keep + Send + Drop,
-    R: Threads + Wait + Clock + Net + Sync + Send + Copy + Drop,
-    G: Gate + Sync,
-    E: Endpoints,
->(
-    common: &Common<'_, N, S, K, R, G>,
-    size: Size,
-    traffic: &Traffic,
-    parts: &mut DeskParts<N, S>,
-    endpoints: &mut E,
-) -> Result<(), ServiceError> {
-    let (rt, alloc) = (common.rt, common.alloc);
-    let listeners = endpoints.listen()?;
-    let ports = make_ports::<N, R>(rt, alloc, size, traffic, &listeners)?;
-    let mut desks = make_desks(common, size.desks(), parts)?;
-    let latch = Latch::new();
-    run_ports(rt, alloc, &latch, size, &ports, &mut desks, endpoints)
-}
-
-/// Starts the threads of all ports, lets them begin, and returns once all have ended.
-fn run_ports<
-    's,
-    T: Send + Drop + 's,
-    D: SharedDesk<Standing = T> + Send + Drop + 's,
-    F: Observe + Sync + Drop + 's,
-    R: Threads + Wait + Clock + Sync + 's,
-    E: Endpoints,
->(
-    rt: &'s R,
-    alloc: Global,
-    latch: &'s Latch,
-    size: Size,
-    ports: &'s [NodeServer<'s, F, T>],
-    desks: &mut Vec<D>,
-    endpoints: &mut E,
-) -> Result<(), ServiceError> {
-    thread::scope(
-        thread::scope_env(),
-        rt,
-        |scope| -> Result<(), ServiceError> {
-            let started = open_ports(scope, rt, alloc, latch, size, ports, desks);
-            begin(latch, started, || endpoints.ready())?;
-            Ok(())
-        },
+        size,
+        traffic,
+        endpoints,
+        &pen,
+        &mut passes,
+        reached,
     )
 }
 
-/// Starts the threads of each port, with as many of the desks as it has workers.
-fn open_ports<
-    's,
-    X,
-    T: Send + Drop + 's,
-    D: SharedDesk<Standing = T> + Send + Drop + 's,
-    F: Observe + Sync + Drop + 's,
-    R: Threads + Wait + Clock + Sync + 's,
+/// Makes the desks, and serves by them.
+fn serve_pen<
+    N: FeedName<Item, Shared> + Send + Sync,
+    S: Copies<Item, Shared, N> + Send + Sync,
+    K: Keep + Send + Drop,
+    R: Threads + Wait + Clock + Net + RandomSource + Sync + Send + Copy + Drop,
+    E: Endpoints,
 >(
-    scope: &Scope<'s, X>,
-    rt: &'s R,
+    rt: &R,
     alloc: Global,
-    latch: &'s Latch,
     size: Size,
-    ports: &'s [NodeServer<'s, F, T>],
-    desks: &mut Vec<D>,
-) -> Result<(), StartError> {
-    for port in ports {
-        let mut own = Vec::new(alloc);
-        for _worker in 0..size.port_workers() {
-            let Some(desk) = desks.pop() else {
-                return Err(StartError);
-            };
-            if own.push(desk).is_err() {
-                return Err(StartError);
-            }
-        }
-        open_node(scope, rt, alloc, latch, port, own, size.connections())?;
+    traffic: &Traffic,
+    endpoints: &mut E,
+    pen: &Mutex<Pen<N, S, K, R>>,
+    passes: &mut Vec<Pass<N>>,
+    reached: u64,
+) -> Result<(), ServiceError>
+    requires { N.first.kept.floor ≤ N.first.next }
+{
+    let keys = RandomState::new(rt)?;
+    let mut desks = make_desks(rt, alloc, pen, passes, keys, size.desks())?;
+    let nobody: Option<&NoFollower> = None;
+    serve_desks(
+        rt, alloc, size, traffic, &mut desks, endpoints, reached, nobody,
+    )
+}
+
+/// Follows nothing, since the pen of a log publishes the list that its ports read: no thread is started for it.
+struct NoFollower {
+    grown: Parker,
+}
+
+impl Follow for NoFollower {
+    fn follow(&self) {}
+
+    fn is_over(&self) -> bool {
+        true
     }
-    Ok(())
+
+    fn grown(&self) -> &Parker {
+        &self.grown
+    }
 }

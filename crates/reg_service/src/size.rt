@@ -1,5 +1,5 @@
 // How much is served.
-ghost use Rattle.std.specs.Prelude.{◌≤◌, ◌<◌, ◌^◌};
+ghost use Rattle.std.specs.Prelude.{◌≡◌, ◌≤◌, max, min};
 
 /// The most nodes.
 pub const NODES_LIMIT: usize = 3;
@@ -16,22 +16,35 @@ pub struct Size {
 }
 
 impl Size {
+    /// The same but for the workers, of which there are the nearest number from the least one to the most.
+    pub fn with_workers(self, least: u32, most: u32) -> Size
+        requires { least ≤ most }
+        ensures workers { result.workers ≡ max least (min self.workers most) }
+        ensures others { (result.nodes ≡ self.nodes) × (result.limit ≡ self.limit) }
+    {
+        Size {
+            nodes: self.nodes,
+            workers: self.workers.clamp(least, most),
+            limit: self.limit,
+        }
+    }
+
     /// How many ports there are: one a node.
-    pub(crate) fn ports(self) -> usize
+    pub fn ports(self) -> usize
         ensures { (1 ≤ result) × (result ≤ NODES_LIMIT) }
     {
         self.nodes.clamp(1, NODES_LIMIT)
     }
 
     /// How many workers a port has.
-    pub(crate) fn port_workers(self) -> u32
+    pub fn port_workers(self) -> u32
         ensures { 1 ≤ result }
     {
         self.workers.max(1)
     }
 
     /// How many desks there are in all: one a worker.
-    pub(crate) fn desks(self) -> u32
+    pub fn desks(self) -> u32
         ensures { 1 ≤ result }
     {
         self.port_workers().saturating_mul(self.ports() as u32)

@@ -62,7 +62,7 @@ impl<R: Net<Listener = TcpListener, Stream = TcpStream> + Print + Drop> Endpoint
         Ok(listen(&self.rt, self.alloc, address, self.port, self.nodes)?)
     }
 
-    fn ready(&mut self) -> bool {
+    fn ready(&mut self, _reached: u64) -> bool {
         for k in 0..self.nodes {
             let port = self.port.saturating_add(k);
             let _told = self.rt.println(format_args!("listening {port}"));

@@ -3,8 +3,8 @@ use crate::ends::{Finished, followed};
 use crate::hearing::CountedLines;
 use crate::place::Place;
 use crate::watching::SharedBoard;
-use reg_follow::{FollowEndpoints, FollowError, FollowSize, serve_lines};
-use reg_service::listen;
+use reg_follow::serve_lines;
+use reg_service::{Endpoints, ServiceError};
 use std::alloc::Global;
 use std::io::{self, BufReader, Eprint, Read};
 use std::net::{Net, TcpListener, TcpStream};
@@ -24,23 +24,17 @@ struct FollowPorts<R: Drop> {
     board: SharedBoard,
 }
 
-impl<R: Net<Listener = TcpListener, Stream = TcpStream> + Eprint + Drop> FollowEndpoints
+impl<R: Net<Listener = TcpListener, Stream = TcpStream> + Eprint + Drop> Endpoints
     for FollowPorts<R> {
-    fn listen(&mut self) -> Result<Vec<TcpListener>, FollowError> {
-        let Place {
-            listen: at,
-            nodes,
-            ..
-        } = self.place;
-        let port = u64::from(at.port());
-        Ok(listen(&self.rt, self.alloc, at.ip(), port, nodes as u64)?)
+    fn listen(&mut self) -> Result<Vec<TcpListener>, ServiceError> {
+        self.place.listen(&self.rt, self.alloc)
     }
 
-    fn ready(&mut self, lines: u64) -> bool {
+    fn ready(&mut self, reached: u64) -> bool {
         self.board.marks.listens.set(true);
         let _told = self
             .rt
-            .eprintln(format_args!("following, {lines} lines so far"));
+            .eprintln(format_args!("following, {reached} lines so far"));
         true
     }
 }
@@ -59,11 +53,6 @@ pub(crate) fn follow<
         + Drop
         + 'static,
 >(rt: R, alloc: Global, input: I, place: Place, board: SharedBoard) -> io::Result<Finished> {
-    let size = FollowSize {
-        nodes: place.nodes,
-        workers: place.workers,
-        limit: None,
-    };
     let lines = CountedLines::new(rt, input, Arc::try_clone(&board)?);
     let reader = BufReader::with_capacity(alloc, PIECE, lines)?;
     let mut ports = FollowPorts {
@@ -72,6 +61,7 @@ pub(crate) fn follow<
         place,
         board: Arc::try_clone(&board)?,
     };
+    let size = place.size();
     let served = serve_lines(rt, alloc, size, reader, &board.traffic, &mut ports);
     followed(&rt, served)
 }

@@ -1,7 +1,5 @@
-// Inputs of which it is counted what comes on them.
+// The lines of the input, counted as they come.
 use crate::watching::{SharedBoard, date};
-use reg_meters::microseconds;
-use reg_metrics::WordFinder;
 use std::io::{self, Read};
 use std::time::Clock;
 
@@ -54,54 +52,6 @@ impl<I: Read + Drop, R: Clock + Drop> CountedLines<I, R> {
 }
 
 impl<I: Read + Drop, R: Clock + Drop> Read for CountedLines<I, R> {
-    fn read(&mut self, buf: &mut [u8]) -> io::Result<usize> {
-        let read = self.input.read(buf)?;
-        if let Some(bytes) = buf.get(..read) {
-            self.count(bytes);
-        }
-        Ok(read)
-    }
-}
-
-/// What an adapter says.
-#[derive(Drop)]
-pub(crate) struct Heard<I: Drop, R: Drop> {
-    rt: R,
-    input: I,
-    board: SharedBoard,
-    finder: WordFinder,
-}
-
-impl<I: Read + Drop, R: Clock + Drop> Heard<I, R> {
-    pub(crate) fn new(rt: R, input: I, board: SharedBoard) -> Heard<I, R> {
-        Heard {
-            rt,
-            input,
-            board,
-            finder: WordFinder::new(),
-        }
-    }
-
-    /// Counts what is said in these bytes, which came next.
-    fn count(&mut self, bytes: &[u8]) {
-        let mut rest = bytes;
-        for _line in 0..bytes.len() {
-            if rest.is_empty() {
-                break;
-            }
-            let (len, word) = self.finder.take(rest);
-            rest = rest.get(len..).unwrap_or(&[]);
-            if let Some(word) = word {
-                let (now, date) = (microseconds(&self.rt), date(&self.rt));
-                self.board
-                    .adapter
-                    .hear(&self.board.batches, word, now, date);
-            }
-        }
-    }
-}
-
-impl<I: Read + Drop, R: Clock + Drop> Read for Heard<I, R> {
     fn read(&mut self, buf: &mut [u8]) -> io::Result<usize> {
         let read = self.input.read(buf)?;
         if let Some(bytes) = buf.get(..read) {

@@ -1,25 +1,31 @@
 // `registrylog join`: nodes over a log that other processes write too, as an adapter at the standard input and output tells it.
 use crate::place::Place;
-use crate::watching::SharedBoard;
-use reg_join_service::{JoinEndpoints, JoinError, JoinSize, RULES};
-use reg_meters::{Traffic, microseconds};
-use reg_service::listen;
+use crate::watching::{SharedBoard, date};
+use reg_join_service::{AskedFor, Heard, Overhear, RULES, Watch};
+use reg_meters::microseconds;
+use reg_metrics::AdapterReply;
+use reg_service::{Endpoints, ServiceError};
 use std::alloc::Global;
-use std::io::{self, Eprint, Print, Write};
+use std::io::{self, Eprint, Print};
 use std::net::{Net, TcpListener, TcpStream};
 use std::time::Clock;
 
 /// The way to the nodes.
 #[derive(Drop)]
-pub(crate) struct JoinPorts<R: Drop> {
+pub(crate) struct JoinPorts<'a, R: Drop> {
     rt: R,
     alloc: Global,
     place: Place,
-    board: SharedBoard,
+    board: &'a SharedBoard,
 }
 
-impl<R: Drop> JoinPorts<R> {
-    pub(crate) fn new(rt: R, alloc: Global, place: Place, board: SharedBoard) -> JoinPorts<R> {
+impl<'a, R: Drop> JoinPorts<'a, R> {
+    pub(crate) fn new(
+        rt: R,
+        alloc: Global,
+        place: Place,
+        board: &'a SharedBoard,
+    ) -> JoinPorts<'a, R> {
         JoinPorts {
             rt,
             alloc,
@@ -29,76 +35,81 @@ impl<R: Drop> JoinPorts<R> {
     }
 }
 
-impl<R: Net<Listener = TcpListener, Stream = TcpStream> + Eprint + Drop> JoinEndpoints
-    for JoinPorts<R> {
-    fn listen(&self) -> Result<Vec<TcpListener>, JoinError> {
-        let Place {
-            listen: at,
-            nodes,
-            ..
-        } = self.place;
-        let port = u64::from(at.port());
-        Ok(listen(&self.rt, self.alloc, at.ip(), port, nodes as u64)?)
+impl<R: Net<Listener = TcpListener, Stream = TcpStream> + Eprint + Drop> Endpoints
+    for JoinPorts<'_, R> {
+    fn listen(&mut self) -> Result<Vec<TcpListener>, ServiceError> {
+        self.place.listen(&self.rt, self.alloc)
     }
 
-    fn ready(&self, next: u64) -> bool {
+    fn ready(&mut self, reached: u64) -> bool {
         self.board.marks.listens.set(true);
-        let _told = self.rt.eprintln(format_args!("joined, next offset {next}"));
+        let _told = self
+            .rt
+            .eprintln(format_args!("joined, next offset {reached}"));
         true
     }
+}
 
+/// Says that what was told next is no command's.
+#[derive(Drop)]
+pub(crate) struct JoinWatch<'a, R: Drop> {
+    rt: R,
+    board: &'a SharedBoard,
+}
+
+impl<'a, R: Drop> JoinWatch<'a, R> {
+    pub(crate) fn new(rt: R, board: &'a SharedBoard) -> JoinWatch<'a, R> {
+        JoinWatch { rt, board }
+    }
+}
+
+impl<R: Eprint + Drop> Watch for JoinWatch<'_, R> {
     fn stopped(&self, offset: u64) {
         self.board.marks.is_unlawful.set(true);
         let _told = self.rt.eprintln(format_args!("batch at offset {offset} is not a command's"));
     }
-
-    fn traffic(&self) -> &Traffic {
-        &self.board.traffic
-    }
 }
 
-/// The standard output, to which requests go, each whole, and handed over then.
+/// Counts what a process and its adapter say to each other.
 #[derive(Drop)]
-pub(crate) struct Requests<R: Drop> {
+pub(crate) struct JoinCounts<R: Drop> {
     rt: R,
     board: SharedBoard,
-    /// Whether something of a request was written.
-    is_begun: bool,
 }
 
-impl<R: Drop> Requests<R> {
-    pub(crate) fn new(rt: R, board: SharedBoard) -> Requests<R> {
-        Requests {
-            rt,
-            board,
-            is_begun: false,
+impl<R: Drop> JoinCounts<R> {
+    pub(crate) fn new(rt: R, board: SharedBoard) -> JoinCounts<R> {
+        JoinCounts { rt, board }
+    }
+}
+
+impl<R: Clock + Drop> Overhear for JoinCounts<R> {
+    fn heard(&self, message: Heard) {
+        if message == Heard::Batch {
+            self.board.adapter.hear_batch();
+        }
+        if let Some(reply) = reply_in(message) {
+            let (now, date) = (microseconds(&self.rt), date(&self.rt));
+            self.board
+                .adapter
+                .hear_reply(&self.board.batches, reply, now, date);
         }
     }
-}
 
-impl<R: Print + Clock + Drop> Write for Requests<R> {
-    fn write(&mut self, buf: &[u8]) -> io::Result<usize> {
-        if !self.is_begun {
-            // A check is an empty line alone.
-            let is_check = buf.starts_with(b"\n");
-            self.board.adapter.ask(is_check, microseconds(&self.rt));
-            self.is_begun = true;
-        }
-        self.rt.write_some(buf)
-    }
-
-    fn flush(&mut self) -> io::Result<()> {
-        self.is_begun = false;
-        Ok(())
+    fn asked(&self, request: AskedFor) {
+        let is_check = request == AskedFor::Check;
+        self.board.adapter.ask(is_check, microseconds(&self.rt));
     }
 }
 
-/// How many nodes there are, and workers of each.
-pub(crate) fn join_size(place: Place) -> JoinSize {
-    JoinSize {
-        nodes: place.nodes,
-        workers: place.workers,
-        limit: None,
+/// The answer that a message is, if it is one.
+fn reply_in(message: Heard) -> Option<AdapterReply> {
+    match message {
+        Heard::Batch | Heard::Ready => None,
+        Heard::Kept => Some(AdapterReply::Kept),
+        Heard::Behind => Some(AdapterReply::Behind),
+        Heard::Declined => Some(AdapterReply::Declined),
+        Heard::Lost => Some(AdapterReply::Lost),
     }
 }
 

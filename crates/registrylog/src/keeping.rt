@@ -11,7 +11,7 @@ use reg_inspection::obstacles;
 use reg_journal::{Disk, StoredFile, SystemError, look};
 use reg_pen::{KeptLog, Told};
 use reg_records::Log;
-use reg_service::{Endpoints, ServiceError, Size, listen};
+use reg_service::{Endpoints, ServiceError};
 use std::alloc::Global;
 use std::fmt;
 use std::fs::{File, Files};
@@ -27,9 +27,8 @@ pub(crate) struct KeepPorts<R: Drop> {
     rt: R,
     alloc: Global,
     place: Place,
-    /// What was read of the log: its records, its next offset, and its bytes.
+    /// What was read of the log: its records, and its bytes.
     records: u64,
-    next: u64,
     bytes: u64,
     progress: Option<Progress>,
     /// Whether the log was made.
@@ -51,20 +50,10 @@ impl<R: Drop> KeepPorts<R> {
             alloc,
             place,
             records: 0,
-            next: 0,
             bytes: 0,
             progress: Some(progress),
             is_new,
             board,
-        }
-    }
-
-    /// How many nodes there are, and workers of each.
-    pub(crate) fn size(&self) -> Size {
-        Size {
-            nodes: self.place.nodes,
-            workers: self.place.workers,
-            limit: None,
         }
     }
 
@@ -81,7 +70,6 @@ impl<R: Drop> KeepPorts<R> {
             progress.has_read(lines, bytes);
         }
         self.records = log.records.len() as u64;
-        self.next = log.next;
         self.bytes = bytes;
         self.board.file.lines.set(lines);
         self.board.file.bytes.set(bytes);
@@ -92,17 +80,11 @@ impl<R: Drop> KeepPorts<R> {
 impl<R: Net<Listener = TcpListener, Stream = TcpStream> + Threads + Eprint + Clock + Drop> Endpoints
     for KeepPorts<R> {
     fn listen(&mut self) -> Result<Vec<TcpListener>, ServiceError> {
-        let Place {
-            listen: at,
-            nodes,
-            ..
-        } = self.place;
-        let port = u64::from(at.port());
-        Ok(listen(&self.rt, self.alloc, at.ip(), port, nodes as u64)?)
+        self.place.listen(&self.rt, self.alloc)
     }
 
-    fn ready(&mut self) -> bool {
-        let (records, next, bytes) = (self.records, self.next, self.bytes);
+    fn ready(&mut self, reached: u64) -> bool {
+        let (records, bytes) = (self.records, self.bytes);
         if let Some(progress) = self.progress.take() {
             progress.end(&self.rt);
         }
@@ -111,7 +93,7 @@ impl<R: Net<Listener = TcpListener, Stream = TcpStream> + Threads + Eprint + Clo
             let _told = self.rt.eprintln("made a new log");
         }
         let _told = self.rt.eprintln(format_args!(
-            "serving {records} records, next offset {next}, {bytes} bytes"
+            "serving {records} records, next offset {reached}, {bytes} bytes"
         ));
         true
     }

@@ -25,8 +25,7 @@ use crate::ends::{Finished, joined, kept, misread, refused, tailed, told, unlock
 use crate::fault::KeepError;
 use crate::filtering::{Wish, base, check, compact};
 use crate::following::{PIECE, follow};
-use crate::hearing::Heard;
-use crate::joining::{JoinPorts, Requests, join_size, tell_rules};
+use crate::joining::{JoinCounts, JoinPorts, JoinWatch, tell_rules};
 use crate::keeping::{KeepPorts, ended, open_log, open_short};
 use crate::opening::lock;
 use crate::place::Place;
@@ -35,7 +34,7 @@ use crate::watching::{Shown, make_board, shown_by};
 use log_arguments::{LogCommand, read_arguments};
 use reg_join_service::serve_joined;
 use reg_metrics::serve_pages;
-use reg_service::{NoGate, serve_log};
+use reg_service::serve_log;
 use reg_tail::follow_file;
 use std::env;
 use std::io::{self, BufReader, Input};
@@ -88,33 +87,17 @@ fn main(rt: HostRuntime) -> io::Result<Finished> {
                 is_new,
                 Arc::try_clone(&board)?,
             );
-            let size = ports.size();
+            let size = place.size();
             let served = match open_log(rt, alloc, &locked, &mut ports, &board) {
                 Ok(log) => {
-                    let served = serve_log(
-                        rt,
-                        alloc,
-                        size,
-                        &NoGate,
-                        &board.traffic,
-                        &mut ports,
-                        log,
-                    );
+                    let served = serve_log(rt, alloc, size, &board.traffic, &mut ports, log);
                     ended(rt, alloc, &locked, served)
                 }
                 Err(fault) => Err(fault),
             };
             let served = match open_short(rt, alloc, &locked, served, &mut ports, &board) {
                 Ok(log) => {
-                    let served = serve_log(
-                        rt,
-                        alloc,
-                        size,
-                        &NoGate,
-                        &board.traffic,
-                        &mut ports,
-                        log,
-                    );
+                    let served = serve_log(rt, alloc, size, &board.traffic, &mut ports, log);
                     ended(rt, alloc, &locked, served)
                 }
                 Err(ended) => ended,
@@ -138,12 +121,21 @@ fn main(rt: HostRuntime) -> io::Result<Finished> {
             metrics: _,
         } => {
             let place = Place::new(listen, nodes, workers);
-            let heard = Heard::new(rt, rt.reader(), Arc::try_clone(&board)?);
-            let input = BufReader::with_capacity(alloc, PIECE, heard)?;
-            let requests = Requests::new(rt, Arc::try_clone(&board)?);
-            let ports = JoinPorts::new(rt, alloc, place, board);
-            let size = join_size(place);
-            let served = serve_joined(rt, alloc, size, input, requests, &ports);
+            let input = BufReader::with_capacity(alloc, PIECE, rt.reader())?;
+            let counts = JoinCounts::new(rt, Arc::try_clone(&board)?);
+            let watch = JoinWatch::new(rt, &board);
+            let mut ports = JoinPorts::new(rt, alloc, place, &board);
+            let served = serve_joined(
+                rt,
+                alloc,
+                place.size(),
+                input,
+                rt.stdout(),
+                &Arc::new(alloc, counts)?,
+                &board.traffic,
+                &watch,
+                &mut ports,
+            );
             joined(&rt, alloc, served)
         }
         LogCommand::Rules => told(tell_rules(&rt)),

@@ -1,14 +1,16 @@
 // Where nodes listen.
-use std::net::SocketAddr;
+use reg_service::{ServiceError, Size, listen};
+use std::alloc::Global;
+use std::net::{Net, SocketAddr, TcpListener, TcpStream};
 
 /// Where nodes listen, and how many there are.
 #[derive(Clone, Copy)]
 pub(crate) struct Place {
     /// Where the first node listens; each other one at the port after that of the one before it.
-    pub(crate) listen: SocketAddr,
-    pub(crate) nodes: usize,
+    listen: SocketAddr,
+    nodes: usize,
     /// How many workers each node has.
-    pub(crate) workers: u32,
+    workers: u32,
 }
 
 impl Place {
@@ -18,5 +20,25 @@ impl Place {
             nodes,
             workers,
         }
+    }
+
+    /// How many nodes there are, and workers of each, which go on for as long as the process.
+    pub(crate) fn size(self) -> Size {
+        Size {
+            nodes: self.nodes,
+            workers: self.workers,
+            limit: None,
+        }
+    }
+
+    /// Listens for each node.
+    pub(crate) fn listen<R: Net<Listener = TcpListener, Stream = TcpStream>>(
+        self,
+        rt: &R,
+        alloc: Global,
+    ) -> Result<Vec<TcpListener>, ServiceError> {
+        let address = self.listen.ip();
+        let port = u64::from(self.listen.port());
+        Ok(listen(rt, alloc, address, port, self.nodes as u64)?)
     }
 }

@@ -57,6 +57,13 @@ impl Shelf {
         self.batches.len()
     }
 
+    /// The first batch stands last once more, which no command writes there.
+    pub(crate) fn spoil(&mut self) -> Made<()> {
+        let first = self.batches.first().ok_or(AllocError)?.clone()?;
+        self.batches.push(first)?;
+        Ok(())
+    }
+
     /// Whether exactly this batch stands at that place.
     pub(crate) fn stands_at(&self, place: usize, batch: &[Record]) -> bool {
         match self.batches.get(place) {

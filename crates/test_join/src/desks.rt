@@ -1,19 +1,16 @@
-// A process is opened over the shared chain, with a desk of one node. Each feed has a name of its own, which is picked where the function that
-// is generic in it is called.
+// A process is opened over the shared chain, with one desk.
 ghost use Rattle.std.specs.Prelude.{◌≡◌, ◌≤◌, []};
-ghost use Rattle.std.specs.FinSet.{empty};
 ghost use Rattle.reg_topic.specs.Topic.{topic_from};
 ghost use Rattle.reg_shared.specs.Held.{held_of};
 
-use crate::chains::Handle;
+use crate::chains::{Handle, on_shelf};
 use crate::opening::Common;
 use crate::runs::len_of;
 use crate::turns::{Turn, comes_out};
-use reg_feed::{Copies, FeedName, Unnamed, feed};
+use reg_feed::{Copies, FeedName, Unnamed};
 use reg_join::JoinKeep;
-use reg_join_desk::{JoinedDesk, JoinedPen, LogWaits, SharedCheck};
+use reg_join_desk::{FeedDesk, JoinCommander, JoinedPen, LogWaits, SharedCheck, View};
 use reg_judge::Judge;
-use reg_node::{Draw, Follower, NodeView, Taken};
 use reg_pen::{KeptLog, Opened, Pass, open};
 use reg_records::Log;
 use reg_shared::Shared;
@@ -34,6 +31,9 @@ pub(crate) fn wrong_step<R: Wait + Clock + Drop + Copy>(
     turn: &Turn<'_>,
     keys: RandomState,
 ) -> Result<Option<usize>, Fail> {
+    if turn.is_spoilt {
+        on_shelf(&common.shelf, Err(AllocError), |shelf| shelf.spoil())?;
+    }
     let log = empty_log(common.alloc)?;
     let chain = Handle::new(common.alloc, common.shelf.clone()?);
     with_pen::<Brand, R>(common, Unnamed::new(), log, chain, turn, keys)
@@ -66,6 +66,7 @@ fn with_pen<N: FeedName<Item, Shared>, R: Wait + Clock + Drop + Copy>(
     beside_pen(common, &mut pen, pass, turn, keys)
 }
 
+/// Takes the turn at a desk over the pen's list.
 fn beside_pen<N: FeedName<Item, Shared>, S: Copies<Item, Shared, N>, R: Wait + Clock + Drop + Copy>(
     common: &Common<R>,
     pen: &mut Mutex<JoinedPen<N, S, Handle, R>>,
@@ -75,61 +76,32 @@ fn beside_pen<N: FeedName<Item, Shared>, S: Copies<Item, Shared, N>, R: Wait + C
 ) -> Result<Option<usize>, Fail>
     requires { N.first.kept.floor ≤ N.first.next }
 {
-    with_node::<N, S, Brand, R>(common, Unnamed::new(), pen, pass, turn, keys)
+    let view = View::new(common.alloc, pen.get_mut().reader()?);
+    at_desk(common, pen, pass, view, turn, keys)
 }
 
-fn with_node<
-    N: FeedName<Item, Shared>,
-    S: Copies<Item, Shared, N>,
-    M: FeedName<Draw, Taken>,
-    R: Wait + Clock + Drop + Copy,
->(
-    common: &Common<R>,
-    list: Unnamed<Draw>,
-    pen: &mut Mutex<JoinedPen<N, S, Handle, R>>,
-    pass: Pass<N>,
-    turn: &Turn<'_>,
-    keys: RandomState,
-) -> Result<Option<usize>, Fail>
-    requires name { (list.reached.book ≡ M.book) × (M.first ≡ empty) }
-    requires floor { N.first.kept.floor ≤ N.first.next }
-{
-    let topic = pen.get_mut().reader()?;
-    let first = Taken::new(common.alloc);
-    let out = feed::<Draw, Taken, M, R>(common.rt, common.alloc, list, first, 1)?;
-    let mut follower = Follower::new(topic, Box::new(common.alloc, out)?);
-    let view = follower.view()?;
-    at_desk(common, pen, &Mutex::new(follower), pass, view, turn, keys)
-}
-
-/// Takes the turn at a desk of the node. Nobody makes the checks that lookups want.
-fn at_desk<
-    N: FeedName<Item, Shared>,
-    S: Copies<Item, Shared, N>,
-    M: FeedName<Draw, Taken>,
-    U: Copies<Draw, Taken, M>,
-    R: Wait + Clock + Drop + Copy,
->(
+/// Takes the turn at a desk. Nobody makes the checks that lookups want.
+fn at_desk<N: FeedName<Item, Shared>, S: Copies<Item, Shared, N>, R: Wait + Clock + Drop + Copy>(
     common: &Common<R>,
     pen: &Mutex<JoinedPen<N, S, Handle, R>>,
-    follower: &Mutex<Follower<N, S, M, U, R>>,
     pass: Pass<N>,
-    view: NodeView<M, U>,
+    view: View<Item, Shared, N, S>,
     turn: &Turn<'_>,
     keys: RandomState,
 ) -> Result<Option<usize>, Fail> {
     let (rt, alloc) = (&common.rt, common.alloc);
     let (check, waits, grown) = (SharedCheck::new(), LogWaits::new(turn.waits), Parker::new());
     let judge = Judge::new(alloc, keys, 16, 64)?;
-    let mut desk = JoinedDesk::new(
-        rt, alloc, pen, follower, &check, &waits, &grown, pass, view, judge,
-    );
+    let commander = JoinCommander::new(rt, alloc, pen, &check, &waits, &grown, pass, judge);
+    let mut desk = FeedDesk::new(commander, view);
     for (place, step) in turn.steps.iter().enumerate() {
-        if !comes_out(alloc, &mut desk, step)? || desk.fresh() != (turn.fresh_from <= place) {
+        if !comes_out(alloc, &mut desk, step)? {
             return Ok(Some(place));
         }
     }
-    let is_right = len_of(&common.shelf) == turn.batches && check.is_wanted() == turn.is_wanted;
+    let is_right = len_of(&common.shelf) == turn.batches
+        && check.is_wanted() == turn.is_wanted
+        && check.has_stopped() == turn.is_spoilt;
     Ok(if is_right {
         None
     } else {

@@ -19,19 +19,19 @@ pub(crate) struct Turn<'a> {
     /// How many workers may wait for the log.
     pub(crate) waits: u32,
     pub(crate) steps: &'a [&'a str],
-    /// From which step on the desk is fresh.
-    pub(crate) fresh_from: usize,
     /// How many batches the chain has at the end.
     pub(crate) batches: usize,
     /// Whether a check is wanted then.
     pub(crate) is_wanted: bool,
+    /// Whether the chain is spoilt before, so that nothing more is taken in.
+    pub(crate) is_spoilt: bool,
 }
 
-/// Each turn has a line with how many workers may wait, from which step on the desk is fresh, how many batches the chain has at the end,
-/// and whether a check is `wanted` then. Then come its steps: a command or a query, and the status and the body of what is answered.
+/// Each turn has a line with how many workers may wait, how many batches the chain has at the end, and whether a check is `wanted` then, or
+/// the chain is `spoilt` before. Then come its steps: a command or a query, and the status and the body of what is answered.
 static TURNS: &str = r#"
 # Nobody else has written.
-1 0 4 none
+1 4 none
 register s "int" => 200 {"id":1}
 versions s => 200 [1]
 schema 1 => 200 {"schema":"\"int\""}
@@ -46,21 +46,21 @@ delete s 1 => 200 1
 versions s => 200 [2]
 
 # The first command takes in what another one wrote, and is refused for it.
-1 1 5 none
+1 5 none
 versions s => 404 {"error_code":40401,"message":"Subject not found"}
 register s "string" => 409 {"error_code":409,"message":"Incompatible with version 2, BACKWARD, at /: TYPE_MISMATCH"}
 versions s => 200 [2]
 set_level * NONE => 200 {"compatibility":"NONE"}
 
 # The next id and the next version come after those of the others.
-1 0 6 none
+1 6 none
 register s "string" => 200 {"id":3}
 versions s => 200 [2,3]
 schema 1 => 200 {"schema":"\"int\""}
 level * => 200 {"compatibilityLevel":"NONE"}
 
 # Nobody may wait for the log.
-0 5 6 none
+0 6 none
 register s "long" => 503 {"error_code":50302,"message":"Store error: declined"}
 set_level * FULL => 503 {"error_code":50302,"message":"Store error: declined"}
 level * => 200 {"compatibilityLevel":"BACKWARD"}
@@ -68,23 +68,28 @@ versions s => 404 {"error_code":40401,"message":"Subject not found"}
 schema 2 => 404 {"error_code":40403,"message":"Schema not found"}
 
 # A lookup wants a check that nobody makes. Then the same schema as another's is registered, and nothing is written.
-1 1 6 wanted
+1 6 wanted
 schema 2 => 404 {"error_code":40403,"message":"Schema not found"}
 register s "long" => 200 {"id":2}
 schema 2 => 200 {"schema":"\"long\""}
+
+# What stands last is no command's. All before it is taken in.
+1 7 spoilt
+register s "bytes" => 503 {"error_code":50302,"message":"Store error: declined"}
+versions s => 200 [2,3]
+set_level * FULL => 503 {"error_code":50302,"message":"Store error: declined"}
 "#;
 
 /// The turn of a first line and its steps.
 fn turn_of<'a>(first: &str, steps: &'a [&'a str]) -> Said<Turn<'a>> {
     let (waits, rest) = cut(first);
-    let (fresh_from, rest) = cut(rest);
     let (batches, wanted) = cut(rest);
     Ok(Turn {
         waits: small_of(waits)?,
         steps,
-        fresh_from: small_of(fresh_from)? as usize,
         batches: small_of(batches)? as usize,
         is_wanted: wanted == "wanted",
+        is_spoilt: wanted == "spoilt",
     })
 }
 
@@ -137,6 +142,6 @@ fn desks_take_in_what_others_wrote(rt: HostRuntime) -> Result<(), Fail> {
     };
     let mut tally = Tally::new(rt.alloc());
     take_turns(&common, RandomState::new(&rt)?, &mut tally)?;
-    assert_eq!(rt; (tally.cases(), tally.others()), (5, ""));
+    assert_eq!(rt; (tally.cases(), tally.others()), (6, ""));
     Ok(())
 }

@@ -2,7 +2,8 @@
 use crate::faults::NotFlushed;
 use reg_adapter::Messages;
 use reg_adapter_line::{
-    AdapterChain, AdapterLine, LineEnd, read_messages, send_requests, tell_all,
+    AdapterChain, AdapterLine, AskedFor, Heard, LineEnd, Overhear, read_messages, send_requests,
+    tell_all,
 };
 use reg_chain::{Chain, ChainAnswer};
 use reg_records::{Key, Record};
@@ -14,11 +15,21 @@ use std::thread::{self, Threads};
 use std::time::{Clock, Duration};
 
 /// How long an answer is waited for, in milliseconds: longer than a test takes, and so long that none comes.
-const LONG: u64 = 20_000;
+pub(crate) const LONG: u64 = 20_000;
 
 const SHORT: u64 = 30;
 
-fn noop(offset: u64) -> Record {
+/// Overhears nothing.
+#[derive(Clone, Copy)]
+struct Deaf;
+
+impl Overhear for Deaf {
+    fn heard(&self, _message: Heard) {}
+
+    fn asked(&self, _request: AskedFor) {}
+}
+
+pub(crate) fn noop(offset: u64) -> Record {
     Record {
         offset,
         key: Key::Noop,
@@ -30,7 +41,7 @@ fn noop(offset: u64) -> Record {
 fn tell<R: Wait + Clock>(rt: &R, alloc: Global, line: &AdapterLine, text: &str) -> io::Result<()> {
     let mut messages = Messages::new(alloc);
     messages.take(text.as_bytes())?;
-    tell_all(rt, &mut messages, line);
+    tell_all(rt, &mut messages, line, &Deaf);
     Ok(())
 }
 
@@ -65,7 +76,7 @@ fn next_offset<R: Wait + Clock + Drop>(chain: &mut AdapterChain<R>) -> Result<Op
 const FIFTH: &str = "batch\n5\t{\"keytype\":\"NOOP\",\"magic\":0}\tnull\n\n";
 
 /// A line behind a base whose next offset is 5, and a chain over it.
-fn begin<R: Wait + Clock + Drop>(
+pub(crate) fn begin<R: Wait + Clock + Drop>(
     rt: R,
     alloc: Global,
     patience: u64,
@@ -175,7 +186,7 @@ fn the_input_ends_while_a_command_waits(rt: HostRuntime) -> Result<(), Fail> {
         || {
             let _bytes = shared.wait_for_request(&rt);
             let mut input: &[u8] = b"ready\n";
-            read_messages(&rt, alloc, &mut input, shared);
+            read_messages(&rt, alloc, &mut input, shared, &Deaf);
         },
     );
     assert_eq!(rt; answer, ChainAnswer::Unknown);
@@ -191,7 +202,7 @@ fn nobody_asked(rt: HostRuntime) -> Result<(), Fail> {
     let (line, mut chain) = begin(rt, alloc, LONG)?;
     let text = format!(in alloc; "{FIFTH}kept\n{FIFTH}")?;
     let mut input: &[u8] = text.as_bytes();
-    read_messages(&rt, alloc, &mut input, &line);
+    read_messages(&rt, alloc, &mut input, &line, &Deaf);
     assert!(rt; line.end(&rt) == Some(LineEnd::NobodyAsked));
     assert_eq!(rt;
         next_offset(&mut chain)?,
@@ -208,7 +219,7 @@ fn a_request_is_not_handed_on(rt: HostRuntime) -> Result<(), Fail> {
     let (line, mut chain) = begin(rt, alloc, SHORT)?;
     assert_eq!(rt; chain.append(&[]), ChainAnswer::Declined);
     let mut writer = NotFlushed(Vec::new(alloc));
-    send_requests(&rt, &mut writer, &line);
+    send_requests(&rt, &mut writer, &line, &Deaf);
     assert!(rt; writer.0.as_slice() == b"\n".as_slice());
     assert!(rt; line.end(&rt) == Some(LineEnd::Output(ErrorKind::Other)));
     Ok(())

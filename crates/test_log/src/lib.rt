@@ -1,6 +1,6 @@
 //! Tests of the kept log that need a disk which tears at each byte of each write and fails at each call, readers and writers that
 //! fail, files of the system, or threads: its journal and the compactions of its file, how a file is followed, and what a process and its
-//! adapter say to each other. What comes of bytes alone is tried by the program `log_cases`.
+//! adapter say to each other, and is overheard of that. What comes of bytes alone is tried by the program `log_cases`.
 #![tactic(auto)]
 
 #[cfg(test)]
@@ -11,5 +11,7 @@ mod exchanges;
 mod faults;
 #[cfg(test)]
 mod journal;
+#[cfg(test)]
+mod overheard;
 #[cfg(test)]
 mod tail;

@@ -1,8 +1,8 @@
 // Nodes that serve while clients ask, and clients that ask once a connection.
 use crate::trials::Machine;
 use reg_meters::Traffic;
-use reg_node_service::serve_nodes;
-use reg_service::{Gate, Listening, ServiceError, Size};
+use reg_node_service::{Gate, serve_nodes};
+use reg_service::{Listening, ServiceError, Size};
 use std::alloc::Global;
 use std::io::{self, Write};
 use std::net::{SocketAddr, TcpListener, TcpStream};

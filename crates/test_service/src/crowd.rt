@@ -1,7 +1,7 @@
 // Eight clients at three nodes, each on one connection.
 use crate::asking::{ask, connect, request_of, while_served};
 use crate::trials::{Machine, Trial, tried};
-use reg_service::NoGate;
+use reg_node_service::NoGate;
 use std::alloc::{AllocError, Global};
 use std::io::{self, BufRead, BufReader, Read, Write};
 use std::net::{SocketAddr, TcpStream};

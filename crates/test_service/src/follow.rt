@@ -3,9 +3,10 @@ use crate::asking::{ask, listen_all};
 use crate::scenes::number_of;
 use crate::trials::Machine;
 use reg_feed::NoPlace;
-use reg_follow::{FollowEndpoints, FollowError, FollowSize, serve_lines};
+use reg_follow::{FollowError, serve_lines};
 use reg_meters::Traffic;
 use reg_serve::StartError;
+use reg_service::{Endpoints, ServiceError, Size};
 use std::alloc::{AllocError, Global};
 use std::io::{self, BufRead, Eprint, ErrorKind, Read};
 use std::mem;
@@ -94,8 +95,8 @@ struct OpenPorts<'a> {
     begun: &'a AtomicU64,
 }
 
-impl FollowEndpoints for OpenPorts<'_> {
-    fn listen(&mut self) -> Result<Vec<TcpListener>, FollowError> {
+impl Endpoints for OpenPorts<'_> {
+    fn listen(&mut self) -> Result<Vec<TcpListener>, ServiceError> {
         Ok(mem::replace(&mut self.listeners, Vec::new(self.alloc)))
     }
 
@@ -192,7 +193,7 @@ fn end_of<
     listeners: Vec<TcpListener>,
     begun: &AtomicU64,
 ) -> Made<String> {
-    let size = FollowSize {
+    let size = Size {
         nodes: scene.nodes,
         workers: 1,
         limit: scene.limit,
@@ -294,19 +295,20 @@ fn nodes_follow_lines(rt: HostRuntime) -> io::Result<()> {
 fn what_was_refused_is_told(rt: HostRuntime) -> Made<()> {
     let alloc = rt.alloc();
     let rows = [
-        (FollowError::from(AllocError), "OutOfMemory"),
-        (FollowError::from(NoPlace), "NoPlace"),
-        (FollowError::from(StartError), "nodes not started"),
+        (ServiceError::from(AllocError), "OutOfMemory"),
+        (ServiceError::from(NoPlace), "NoPlace"),
+        (ServiceError::from(StartError), "nodes not started"),
         (
-            FollowError::from(io::Error::from(ErrorKind::PermissionDenied)),
+            ServiceError::from(io::Error::from(ErrorKind::PermissionDenied)),
             "nodes not started: PermissionDenied",
         ),
         (
-            FollowError::from(io::Error::from(ErrorKind::OutOfMemory)),
+            ServiceError::from(io::Error::from(ErrorKind::OutOfMemory)),
             "OutOfMemory",
         ),
     ];
-    for (error, wanted) in rows {
+    for (refused, wanted) in rows {
+        let error = FollowError::from(refused);
         let text = format!(in alloc; "{error}")?;
         assert_eq!(rt; (text.as_str(), error.status()), (wanted, 1));
     }

@@ -2,7 +2,7 @@
 use crate::asking::{await_number, while_served};
 use crate::scenes::{Stage, number_of, play_at};
 use crate::trials::{Machine, Trial, tried};
-use reg_service::Gate;
+use reg_node_service::Gate;
 use std::alloc::Global;
 use std::io;
 use std::sync::atomic::{AtomicU64, Ordering};

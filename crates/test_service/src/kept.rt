@@ -5,7 +5,7 @@ use crate::trials::{Machine, Trial, tried};
 use reg_meters::Traffic;
 use reg_pen::{Keep, Kept, KeptLog, Lack};
 use reg_records::{Device, Log, Record, read_log};
-use reg_service::{Listening, NoGate, ServiceError, Size, serve_log};
+use reg_service::{Listening, ServiceError, Size, serve_log};
 use std::alloc::Global;
 use std::net::TcpListener;
 use std::sync::atomic::{AtomicU64, Ordering};
@@ -116,15 +116,7 @@ fn serve_scripted<R: Machine>(
     };
     let mut endpoints = Listening::new(alloc, listeners);
     let kept = KeptLog::new(base, Scripted { notes });
-    serve_log(
-        rt,
-        alloc,
-        size,
-        &NoGate,
-        &Traffic::new(),
-        &mut endpoints,
-        kept,
-    )
+    serve_log(rt, alloc, size, &Traffic::new(), &mut endpoints, kept)
 }
 
 /// Two nodes serve the log over the scripted keep.

@@ -3,7 +3,7 @@ use crate::asking::while_served;
 use crate::scenes::{Bare, play_at};
 use crate::trials::{Machine, Trial, tried};
 use reg_metrics::{Pages, Stage, serve_pages};
-use reg_service::NoGate;
+use reg_node_service::NoGate;
 use std::alloc::Global;
 use std::io;
 use std::net::{SocketAddr, TcpListener};

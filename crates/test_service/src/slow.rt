@@ -3,7 +3,7 @@ use crate::asking::{ask, body, send, while_served};
 use crate::trials::{Machine, Trial, tried};
 use avro_resolve::resolve;
 use avro_schema::Schema;
-use reg_service::NoGate;
+use reg_node_service::NoGate;
 use std::alloc::{AllocError, Global};
 use std::io::{self, ErrorKind};
 use std::net::SocketAddr;

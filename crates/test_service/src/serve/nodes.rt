@@ -55,11 +55,14 @@ fn open_at<'s, E, R: Machine>(
     rt: &'s R,
     alloc: Global,
     latch: &'s Latch,
-    node: &'s NodeServer<'s, Watching<'s>, u64>,
+    nodes: &'s [NodeServer<'s, Watching<'s>, u64>],
     size: (u64, u64),
     ledger: &'s Ledger,
 ) -> Result<(), StartError> {
     let (workers, limit) = size;
+    let Some(node) = nodes.first() else {
+        return Err(StartError);
+    };
     let mut desks = Vec::new(alloc);
     for _worker in 0..workers {
         if desks.push(EchoDesk::new(rt, ledger)).is_err() {
@@ -67,7 +70,7 @@ fn open_at<'s, E, R: Machine>(
         }
     }
     open_node(scope, rt, alloc, latch, node, desks, Some(limit))?;
-    follow_list(scope, rt, latch, node)
+    follow_list(scope, rt, latch, nodes, node.observer())
 }
 
 /// What a client gives while a node serves, with so many workers, which ends once so many of its connections
@@ -89,7 +92,7 @@ pub(crate) fn with_node<R: Machine, B: Drop, F: FnOnce(SocketAddr) -> io::Result
         grown: Parker::new(),
         traffic: Traffic::new(),
     };
-    let node = NodeServer::new(rt, alloc, &listener, following, size.0 as usize, limits)?;
+    let nodes = [NodeServer::new(rt, alloc, &listener, following, size.0 as usize, limits)?];
     let latch = Latch::new();
     let entry = &latch;
     thread::scope(
@@ -98,7 +101,7 @@ pub(crate) fn with_node<R: Machine, B: Drop, F: FnOnce(SocketAddr) -> io::Result
         |scope| -> io::Result<B>
             requires { F.IsAlwaysCallable client }
         {
-            let started = open_at(scope, rt, alloc, entry, &node, size, ledger);
+            let started = open_at(scope, rt, alloc, entry, &nodes, size, ledger);
             if begin(entry, started, || true).is_err() {
                 return Err(io::Error::from(AllocError));
             }

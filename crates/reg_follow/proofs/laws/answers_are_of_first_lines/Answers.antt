@@ -3,6 +3,6 @@ use Rattle.reg_follow.proofs.FirstLines.{answers}
 use Rattle.reg_follow.proofs.laws.answers_are_of_first_lines.Goals as goal
 
 pub returns : goal.returns
-returns c text read s has =
+returns g c text read s has =
     answers c.records_are_ordered.ensures.all c.records_are_ordered.ensures.apart c.first_records_are_of_first_lines.ensures read
     (list_of s) has.list

@@ -1,0 +1,171 @@
+// The pen of a log that others write too, as one of those sees it who do commands at it.
+ghost use Rattle.std.specs.Prelude.{◌≡◌};
+ghost use mathlib.Core.List.{IsPrefix};
+ghost use Rattle.reg_shared.specs.Held.{base_of};
+ghost use Rattle.reg_desk.specs.Desk.{front_of};
+ghost use Rattle.reg_join_desk.specs.JoinedDesk.{IsOrdered};
+
+use crate::joined_pen::JoinedPen;
+use crate::patience::TimedPatience;
+use reg_chain::Chain;
+use reg_desk::{Case, PenAccess, Ruling, overtaken};
+use reg_feed::{Copies, FeedName, Seen};
+use reg_join::JoinSubmitted;
+use reg_leader::Command;
+use reg_levels::Judged;
+use reg_pen::Pass;
+use reg_shared::Shared;
+use reg_topic::Item;
+use std::alloc::Global;
+use std::marker::Model;
+use std::sync::{Mutex, Wait};
+use std::time::Clock;
+
+/// Does commands at the pen of a log that others write too, each for as long as there is patience. Contracts see nothing of it.
+#[derive(Drop)]
+pub(crate) struct JoinHandle<
+    'a,
+    N: FeedName<Item, Shared>,
+    S: Copies<Item, Shared, N>,
+    C: Chain + Drop,
+    R: Wait + Clock + Drop,
+> {
+    rt: &'a R,
+    alloc: Global,
+    pen: &'a Mutex<JoinedPen<N, S, C, R>>,
+    pass: Pass<N>,
+    patience: TimedPatience<'a, R>,
+}
+
+impl<
+    'a,
+    N: FeedName<Item, Shared>,
+    S: Copies<Item, Shared, N>,
+    C: Chain + Drop,
+    R: Wait + Clock + Drop,
+> Model for JoinHandle<'a, N, S, C, R> {
+    ghost Value = { Unit {0} };
+
+    ghost view = { λ _. tt };
+}
+
+impl<
+    'a,
+    N: FeedName<Item, Shared>,
+    S: Copies<Item, Shared, N>,
+    C: Chain + Drop,
+    R: Wait + Clock + Drop,
+> JoinHandle<'a, N, S, C, R> {
+    /// What does commands at that pen by that pass.
+    pub(crate) fn new(
+        rt: &'a R,
+        alloc: Global,
+        pen: &'a Mutex<JoinedPen<N, S, C, R>>,
+        pass: Pass<N>,
+    ) -> JoinHandle<'a, N, S, C, R> {
+        JoinHandle {
+            rt,
+            alloc,
+            pen,
+            pass,
+            patience: TimedPatience::new(rt),
+        }
+    }
+
+    /// The next command begins now, and patience with it.
+    pub(crate) fn begin(&mut self) {
+        self.patience = TimedPatience::new(self.rt);
+    }
+}
+
+impl<
+    'a,
+    N: FeedName<Item, Shared>,
+    S: Copies<Item, Shared, N>,
+    C: Chain + Drop,
+    R: Wait + Clock + Drop,
+> PenAccess<N> for JoinHandle<'a, N, S, C, R> {
+    type Done = JoinSubmitted<N>;
+
+    ghost use Rattle.reg_shared.specs.Held.{base_of};
+    ghost use Rattle.reg_desk.specs.Desk.{front_of};
+    ghost use Rattle.reg_join_desk.specs.JoinedDesk.{IsOrdered};
+
+    ghost does = { λ _ since c done _. IsOrdered C.told C.answers (base_of N.first) (front_of since) c done.outcome done.seen };
+
+    fn submit(
+        &mut self,
+        since: &Option<Seen<Item, Shared, N>>,
+        command: &Command,
+        judged: Option<&Judged>,
+    ) -> JoinSubmitted<N> {
+        let mut pen = self.pen.lock(self.rt);
+        submit_at(
+            &mut pen,
+            self.alloc,
+            &mut self.pass,
+            since,
+            command,
+            judged,
+            &self.patience,
+        )
+    }
+
+    fn submit_if_fits(
+        &mut self,
+        since: &Option<Seen<Item, Shared, N>>,
+        command: &Command,
+        ruling: Ruling,
+    ) -> Result<JoinSubmitted<N>, Case> {
+        let Ruling { case, judged } = ruling;
+        let mut pen = self.pen.lock(self.rt);
+        if let Some(case) = overtaken(case, pen.registry()) {
+            return Err(case);
+        }
+        Ok(submit_at(
+            &mut pen,
+            self.alloc,
+            &mut self.pass,
+            since,
+            command,
+            Some(&judged),
+            &self.patience,
+        ))
+    }
+}
+
+/// Does the command at a pen whose list begins with what was seen.
+fn submit_at<
+    N: FeedName<Item, Shared>,
+    S: Copies<Item, Shared, N>,
+    C: Chain + Drop,
+    R: Wait + Clock + Drop,
+>(
+    pen: &mut JoinedPen<N, S, C, R>,
+    alloc: Global,
+    pass: &mut Pass<N>,
+    since: &Option<Seen<Item, Shared, N>>,
+    command: &Command,
+    judged: Option<&Judged>,
+    patience: &TimedPatience<'_, R>,
+) -> JoinSubmitted<N>
+    ensures { IsOrdered C.told C.answers (base_of N.first) (front_of since.now) command.now result.outcome result.seen }
+{
+    cover(pen, since);
+    pen.submit(alloc, pass, since.as_ref(), command, judged, patience)
+}
+
+/// What was seen of the pen's list begins what it has published.
+#[tactic(auto, using(crate::proofs::Ordered::nothing_begins))]
+fn cover<N: FeedName<Item, Shared>, S: Copies<Item, Shared, N>, C: Chain + Drop, R: Wait + Drop>(
+    pen: &mut JoinedPen<N, S, C, R>,
+    since: &Option<Seen<Item, Shared, N>>,
+)
+    ensures begun { IsPrefix (front_of since.now) pen.old.published }
+    ensures same { pen.new ≡ pen.old }
+{
+    match since {
+        Some(since) => pen.covers(since),
+        None => {}
+    }
+}
