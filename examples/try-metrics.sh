@@ -136,7 +136,8 @@ for number in range(count):
 print(kept, refused)
 END_OF_LOAD
 load() { timeout 120 python3 "$folder/load.py" "$registry" "$@"; }
-count_of() { curl -s "http://$metrics/metrics" | sed -n "s/^$1 //p"; }
+# The number of a sample; 0 where the page has none.
+count_of() { curl -s "http://$metrics/metrics" | awk -v "sample=$1" '$1 == sample { number = $2 } END { print number + 0 }'; }
 
 # ---- the trial
 
@@ -171,12 +172,13 @@ for panel in json.load(open(sys.argv[1]))["panels"]:
 
 try_load() {
     local before after
-    before=$(count_of 'registry_http_requests_total{class="command",status="2xx"}')
+    local commands='registry_http_requests_total{class="command",method="POST",route="/subjects/{subject}/versions",status="200"}'
+    before=$(count_of "$commands")
     same "100 schemas under load" "100 0" "$(load first 100 20)"
-    after=$(count_of 'registry_http_requests_total{class="command",status="2xx"}')
+    after=$(count_of "$commands")
     same "the page counts these commands" 100 "$((after - before))"
     same "and their batches" "$after" "$(count_of 'registry_log_batches_total{outcome="kept"}')"
-    await "Prometheus has the count" holds "registry_http_requests_total{class=\"command\",status=\"2xx\"} == $after"
+    await "Prometheus has the count" holds "$commands == $after"
     same "what fires while all is well" '' "$(firing)"
 }
 

@@ -10,8 +10,9 @@
 //! - `.messages`: `say TEXT`: an adapter's messages, given in pieces of each size, with a star at a foreign line, and how they end.
 //!   `base TEXT`: the same behind a base, after the base's next offset. `unended TEXT`: how two looks at a text end that goes on.
 //!   `request FIRST COUNT`: what asks for so many records of no operation.
-//! - `.metrics`: `page NAME`: the number of a line on a page of metrics. `stat TEXT`, `started TEXT`: what the system says. `request TEXT`:
-//!   what is asked for, and the response. `stage WORDS`: how far a process is of which these are true.
+//! - `.metrics`: `answer TIMES METHOD TARGET STATUS MICROSECONDS`: so many requests are answered, of 10 bytes each by 100. `page NAME`: the
+//!   number of a line on a page of metrics. `samples NAME`: all samples of a metric. `stat TEXT`, `started TEXT`: what the system says.
+//!   `request TEXT`: what is asked for, and the response. `stage WORDS`: how far a process is of which these are true.
 //! - `.replies`: paragraphs, each with numbers of its own. `batch SECOND ANSWER`, `check SECOND ANSWER`: a request that is answered 100
 //!   microseconds later. `ask SECOND`: a request for a batch. `hear SECOND DATE ANSWER`: an answer. `told`: others' batch. `batches`,
 //!   `checks`: how often each answer came. `last`: when a check was answered last. `away SECOND`: whether the store counts as away.

@@ -1,27 +1,15 @@
 // Numbers on a page, what the system says, and requests for pages.
 use crate::form::{Came, Form, shown};
 use exposition::{Family, page_text};
-use reg_meters::{ConnectionTally, Ending, RequestClass, StatusClass, Traffic};
+use reg_meters::{ConnectionTally, Ending, Traffic};
 use reg_metrics::{
     AdapterMeters, BatchMeters, Condition, FileMeters, LineMeters, PageRequest, Stage,
     adapter_families, answer_to, asked_in, batch_families, file_families, line_families,
     numbers_in, process_families, stage_families, started_in, traffic_families,
 };
+use reg_routes::Paths;
 use std::alloc::Global;
-use test_tools::{CaseError, Made, bytes_of, cut};
-
-static CLASSES: [RequestClass; 4] = [
-    RequestClass::Lookup,
-    RequestClass::Check,
-    RequestClass::Command,
-    RequestClass::Refused,
-];
-
-static STATUSES: [StatusClass; 3] = [
-    StatusClass::Success,
-    StatusClass::ClientError,
-    StatusClass::ServerError,
-];
+use test_tools::{CaseError, Made, Said, bytes_of, cut, number_of};
 
 static ENDINGS: [Ending; 5] = [
     Ending::Done,
@@ -35,18 +23,8 @@ static ENDINGS: [Ending; 5] = [
 const STAT: &str =
     "42 (a) b) S 1 42 42 0 -1 4194560 900 0 0 0 20 15 0 0 20 0 9 0 5000 8192000 250 1844674407 1 1 0 0\n";
 
-/// Counts requests, each class and status once more than the one before and 50 microseconds longer, and 40 connections, of which
-/// 15 were closed.
-fn count_traffic(traffic: &Traffic) {
-    let mut times = 0u64;
-    for class in &CLASSES {
-        for status in &STATUSES {
-            times = times.saturating_add(1);
-            for _answer in 0..times {
-                traffic.count(*class, *status, 10, 100, times.saturating_mul(50));
-            }
-        }
-    }
+/// Counts 40 connections, of which 15 were closed.
+fn count_connections(traffic: &Traffic) {
     let mut tally = ConnectionTally::new();
     for _connection in 0..40u64 {
         tally.accept();
@@ -63,6 +41,7 @@ fn count_log(batches: &BatchMeters, file: &FileMeters) {
     batches.kept.add(2);
     batches.declined.add(3);
     batches.lost.add(4);
+    batches.unknown.add(6);
     batches.overtaken.add(5);
     batches.seconds.count(1_000_000);
     batches.seconds.count(5_000_001);
@@ -77,12 +56,10 @@ fn count_log(batches: &BatchMeters, file: &FileMeters) {
 }
 
 /// All families, each with its numbers.
-fn families(alloc: Global) -> Made<Vec<Family>> {
+fn families(alloc: Global, traffic: &Traffic) -> Made<Vec<Family>> {
     let mut out = Vec::new(alloc);
     stage_families(alloc, "1.2", "keep", Stage::Lost, &mut out)?;
-    let traffic = Traffic::new();
-    count_traffic(&traffic);
-    traffic_families(alloc, &traffic, &mut out)?;
+    traffic_families(alloc, traffic, &mut out)?;
     let (batches, file) = (BatchMeters::new(), FileMeters::new());
     count_log(&batches, &file);
     batch_families(alloc, &batches, &mut out)?;
@@ -112,6 +89,18 @@ fn number_on<'p>(page: &'p str, name: &str) -> &'p str {
         }
     }
     "no such line"
+}
+
+/// The samples of the metric of that name, each with an LF and without that name.
+fn samples_on(alloc: Global, page: &str, name: &str) -> Came {
+    let mut samples = String::new(alloc);
+    for line in page.lines() {
+        if let Some(rest) = line.strip_prefix(name) {
+            samples.push_str(rest)?;
+            samples.push('\n')?;
+        }
+    }
+    shown(alloc, samples.as_bytes())
 }
 
 /// What the system says of a process.
@@ -154,19 +143,50 @@ fn stage_of(alloc: Global, words: &str) -> Came {
     Ok(format!(in alloc; "{} {}", stage.word(), response.as_str())?)
 }
 
-/// A page, and what is asked about its numbers.
+/// What is counted, and the page of it.
 #[derive(Drop)]
 pub(crate) struct Metrics {
+    paths: Paths,
+    traffic: Traffic,
     page: String,
 }
 
 impl Metrics {
-    /// The page of all families.
+    /// Nothing is answered.
     pub(crate) fn new(alloc: Global) -> Made<Metrics> {
-        let page = page_text(alloc, &families(alloc)?)?;
-        Ok(Metrics {
-            page: String::from_utf8_lossy(alloc, page.as_slice())?,
-        })
+        let traffic = Traffic::new();
+        count_connections(&traffic);
+        let mut metrics = Metrics {
+            paths: Paths::new(alloc)?,
+            traffic,
+            page: String::new(alloc),
+        };
+        metrics.write_page(alloc)?;
+        Ok(metrics)
+    }
+
+    /// Writes the page of all families.
+    fn write_page(&mut self, alloc: Global) -> Made<()> {
+        let page = page_text(alloc, &families(alloc, &self.traffic)?)?;
+        self.page = String::from_utf8_lossy(alloc, page.as_slice())?;
+        Ok(())
+    }
+
+    /// Counts so many requests of 10 bytes of a method and a target, and answers of 100 bytes with a status, each after so many microseconds.
+    fn count(&mut self, alloc: Global, row: &str) -> Said<()> {
+        let (times, rest) = cut(row);
+        let (method, rest) = cut(rest);
+        let (target, rest) = cut(rest);
+        let (status, took) = cut(rest);
+        let endpoint = self.paths.endpoint(method, target);
+        let Ok(status) = status.parse::<u16>() else {
+            return Err(CaseError::NotUnderstood);
+        };
+        let took = number_of(took)?;
+        for _answer in 0..number_of(times)? {
+            self.traffic.count(endpoint, status, 10, 100, took);
+        }
+        Ok(self.write_page(alloc)?)
     }
 }
 
@@ -176,7 +196,12 @@ impl Form for Metrics {
         let bytes = bytes_of(alloc, rest)?;
         let text = String::from_utf8_lossy(alloc, bytes.as_slice())?;
         match command {
+            "answer" => {
+                self.count(alloc, rest)?;
+                Ok(String::new(alloc))
+            }
             "page" => Ok(String::from_str(alloc, number_on(self.page.as_str(), rest))?),
+            "samples" => samples_on(alloc, self.page.as_str(), rest),
             "stat" => Ok(process_in(alloc, text.as_str())?),
             "started" => Ok(start_in(alloc, text.as_str())?),
             "request" => response_to(alloc, &bytes),

@@ -50,9 +50,9 @@ impl Replies {
         let it = &self.batches;
         let (kept, overtaken) = (it.kept.count(), it.overtaken.count());
         let (declined, lost) = (it.declined.count(), it.lost.count());
-        let took = it.seconds.sum();
+        let (unknown, took) = (it.unknown.count(), it.seconds.sum());
         format!(in alloc;
-            "kept {kept}, overtaken {overtaken}, declined {declined}, lost {lost}, took {took}"
+            "kept {kept}, overtaken {overtaken}, declined {declined}, lost {lost}, unknown {unknown}, took {took}"
         )
     }
 

@@ -12,7 +12,7 @@ use Rattle.httparse.specs.Grammar.{LineEnd, crlf, lf, RequestHead, is_token_byte
 use Rattle.httparse.proofs.GrammarLemmas.{print_request-append}
 use Rattle.reg_refusals.specs.declared.refusal.Refusal.{Refusal}
 use Rattle.reg_refusals.specs.declared.refusal.Refusal.TheVariants as refusals
-use Rattle.reg_messages.specs.Head.{Front, IsHead, cut_after, cut_head, ends_in_empty_line, front_of, has_few_lines, head, is_skipped, no_head, over, skipped_len, within_limit}
+use Rattle.reg_messages.specs.Head.{IsHead, cut_after, cut_head, ends_in_empty_line, front_of, has_few_lines, head, is_skipped, no_head, over, skipped_len, within_limit}
 use Rattle.reg_connection.specs.TurnKinds.{is_space, kind_in, kind_of, kind_on_line, skip_blank}
 
 -- what was found is the head

@@ -1,11 +1,12 @@
 -- An answer on a connection, at whichever desk.
-use Rattle.std.specs.Prelude.{◌≡◌, ℕ, List, Bool, Option, Some, None, Result}
+use Rattle.std.specs.Prelude.{◌≡◌, ℕ, List, Option, Some, None, Result}
 use Rattle.std.specs.declared.alloc.AllocError.{AllocError}
 use Rattle.reg_leader.specs.declared.command.Command.{Command}
 use Rattle.reg_leader.specs.declared.reply.Reply.{Reply}
 use Rattle.reg_lookup.specs.declared.answered.Answer.{Answer}
 use Rattle.reg_lookup.specs.declared.query.Query.{Query}
-use Rattle.reg_conversation.specs.Conversation.{AnswersHeld, FailsFirst}
+use Rattle.reg_conversation.specs.Conversation.{AnswersAs, FailsFirst}
+use Rattle.reg_http.specs.declared.outcome.RequestOutcome.{RequestOutcome}
 use Rattle.reg_http.specs.declared.serving.ServeError.{ServeError}
 use Rattle.reg_records.specs.declared.device.Device.{Device}
 
@@ -26,9 +27,9 @@ FailsKnowing {D} asks commands learns old before writer writer' text out out' ne
 
 module _ {D S : Type 0} (asks : D → Query → Result Answer AllocError → D → Type 0) (commands : D → Command → Reply → D → Type 0)
     (stands : D → S → Type 0) (learns : D → S → D → Type 0) where
-  -- the request at the front was answered by a desk that had first learnt of what the last answer stood on; what this one stands on
-  -- goes with the connection
-  abbrev pub AnswersKnowing : D → Option S → List ℕ → Option (List ℕ) → Option (List ℕ) → Option S → List ℕ → D → Bool → Type 0
-  AnswersKnowing old before held out out' after held' new goes = (told : D) × HasLearnt learns old before told
-      × AnswersHeld asks commands told held out out' held' new goes
+  -- the request at the front was answered by a desk that had first learnt of what the last answer stood on, and what became of it; what
+  -- this answer stands on goes with the connection
+  abbrev pub AnswersKnowing : D → Option S → List ℕ → Option (List ℕ) → Option (List ℕ) → Option S → List ℕ → D → RequestOutcome → Type 0
+  AnswersKnowing old before held out out' after held' new outcome = (told : D) × HasLearnt learns old before told
+      × AnswersAs asks commands told held out out' held' new outcome
       × ((standing : S) × (after ≡ Some standing) × stands new standing)

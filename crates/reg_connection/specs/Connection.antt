@@ -1,5 +1,5 @@
 -- Since when a connection waits, and what its client takes of the answers that are left.
-use Rattle.std.specs.Prelude.{◌≡◌, ◌≢◌, ◌⊎◌, ◌+◌, ◌-◌, ◌≤◌, ◌^◌, ℕ, List, Bool, true, ◌&&◌, ◌==◌, drop, length, min, nat_lt, take, if◌then◌else◌}
+use Rattle.std.specs.Prelude.{◌≡◌, ◌≢◌, ◌⊎◌, ◌+◌, ◌-◌, ◌≤◌, ◌^◌, ℕ, List, true, ◌&&◌, ◌==◌, drop, length, min, nat_lt, take, if◌then◌else◌}
 use Rattle.reg_connection.specs.Sending.{TakesBytes}
 use Rattle.reg_connection.specs.declared.connection.Connection.{Connection}
 use Rattle.reg_connection.specs.declared.waiting.Waits.TheVariants as waits

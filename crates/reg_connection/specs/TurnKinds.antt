@@ -1,5 +1,5 @@
 -- Which turn of a node's workers a request takes, by its method and its target.
-use Rattle.std.specs.Prelude.{◌≡◌, ⊤, ℕ, List, [], ◌∷◌, Bool, ◌==◌, Option, Some, None, option_and_then, take, if◌then◌else◌}
+use Rattle.std.specs.Prelude.{◌≡◌, ⊤, ℕ, List, [], ◌∷◌, Bool, ◌==◌, Option, Some, None, option_and_then, if◌then◌else◌}
 use Rattle.std.specs.List.{after_first, before_first}
 use Rattle.reg_lookup.specs.declared.query.Query.TheVariants as queries
 use Rattle.reg_messages.specs.Head.{is_skipped, within_limit}

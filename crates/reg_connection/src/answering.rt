@@ -5,11 +5,11 @@ ghost use Rattle.reg_messages.specs.Head.{front_of};
 ghost use Rattle.reg_messages.specs.Reading.{IsShort};
 ghost use Rattle.reg_responses.specs.declared.limits.TheConstants.{INTERRUPTION_LIMIT};
 ghost use Rattle.reg_messages.specs.Extent.{IsWhole};
-ghost use Rattle.reg_conversation.specs.Conversation.{RepliesAll};
+ghost use Rattle.reg_conversation.specs.Conversation.{EndsAs, RepliesAll};
 ghost use Rattle.reg_connection.specs.Answering.{AnswersKnowing, FailsKnowing, HasLearnt, StandsOn};
 
 use reg_conversation::{Conversation, SharedDesk};
-use reg_http::{Paths, ServeError};
+use reg_http::{Paths, RequestOutcome, ServeError};
 use reg_records::Device;
 use std::alloc::Global;
 use std::io::Write;
@@ -34,7 +34,7 @@ pub fn answer_one<W: Write, D: SharedDesk>(
     standing: &mut Option<D::Standing>,
     writer: &mut Device<W>,
     desk: &mut D,
-) -> Result<bool, ServeError>
+) -> Result<RequestOutcome, ServeError>
     requires fits { len ≤ length conversation.old }
     requires whole { IsWhole (take len conversation.old) }
     requires few { interruptions_of writer.old ≤ INTERRUPTION_LIMIT }
@@ -52,7 +52,8 @@ pub fn answer_one<W: Write, D: SharedDesk>(
     answered
 }
 
-/// Answers what is held, which is short of a request, where the client has ended its side.
+/// Answers what is held, which is short of a request, where the client has ended its side, and says what became of it; `None` where no
+/// request was begun.
 pub fn answer_last<W: Write, D: SharedDesk>(
     alloc: Global,
     paths: &mut Option<Paths>,
@@ -60,11 +61,12 @@ pub fn answer_last<W: Write, D: SharedDesk>(
     standing: &mut Option<D::Standing>,
     writer: &mut Device<W>,
     desk: &mut D,
-) -> Result<(), ServeError>
+) -> Result<Option<RequestOutcome>, ServeError>
     requires short { IsShort (front_of conversation.old) }
     requires few { interruptions_of writer.old ≤ INTERRUPTION_LIMIT }
     ensures answered { OnOk result ((told : D) × HasLearnt D.learns desk.old standing.old told
         × RepliesAll D.asks D.commands told conversation.old (bytes_in W.contents writer.old) (bytes_in W.contents writer.new) desk.new) }
+    ensures outcome { IfOk result (EndsAs conversation.old (bytes_in W.contents writer.old) (bytes_in W.contents writer.new)) }
     ensures refused { IfErr result (FailsKnowing D.asks D.commands D.learns desk.old standing.old writer.old writer.new
         conversation.old (bytes_in W.contents writer.old) (bytes_in W.contents writer.new) desk.new) }
     ensures stands { StandsOn D.stands desk.new standing.new }

@@ -1,7 +1,7 @@
 -- What is answered of a whole request is answered of every text that goes on after it.
 use Rattle.std.proofs.Common.{◌≡◌, ◌⊎◌, ◌++◌, [], List, ℕ, Bool, true, false, Some, None, refl, sym, ap}
 use Rattle.std.proofs.Common.{subst, ◌∙◌, inl, inr, arith, append-nil, length, length-append, take, drop}
-use Rattle.std.specs.Prelude.{Option, Result, nat_le}
+use Rattle.std.specs.Prelude.{Option, Result, nat_le, not}
 use Rattle.std.specs.declared.alloc.AllocError.{AllocError}
 use Rattle.std.proofs.lemmas.List.{append_assoc, take-append-drop, take-append-le}
 use Rattle.std.proofs.Math.Seq.{drop-append_seam}
@@ -18,12 +18,11 @@ use Rattle.reg_requests.specs.Asked.{asked_of}
 use Rattle.reg_http.specs.Requests.{request_of}
 use Rattle.reg_http.specs.Serve.{AnswersFirst, AnswersFront, AnswersHead, Does, LacksMemory, left_if}
 use Rattle.reg_http.specs.ServeSteps.{Steps}
-use Rattle.reg_http.specs.declared.serving.Next.{Next}
+use Rattle.reg_http.specs.declared.outcome.RequestOutcome.{RequestOutcome}
 use Rattle.reg_http.specs.declared.serving.ServeError.{ServeError}
-use Rattle.reg_http.specs.declared.serving.Next.TheVariants as nexts
 use Rattle.reg_http.specs.declared.serving.ServeError.TheVariants as errors
 use Rattle.reg_messages.specs.Extent.{IsWhole}
-use Rattle.reg_conversation.specs.Conversation.{AnswersHeld, FailsFirst}
+use Rattle.reg_conversation.specs.Conversation.{AnswersAs, FailsFirst, left_of}
 
 -- a body is the same whatever comes after it
 body_in-more : (n : ℕ) (after more : List ℕ) → length after ≡ n → body_in n (after ++ more) ≡ body_in n after
@@ -125,42 +124,38 @@ module _ {D : Type 0} (asks : D → Query → Result Answer AllocError → D →
   held-parts : (held more : List ℕ) (n : ℕ) → held ++ more ≡ take n held ++ (drop n held ++ more)
   held-parts held more n = ap (λ t. t ++ more) (sym (take-append-drop n held)) ∙ append_assoc (take n held) (drop n held) more
 
-  -- a step over whole bytes at the front of what is held, after which the connection goes on
-  pub held-more : (old new : D) (held held' : List ℕ) (n : ℕ) (before after : Option (List ℕ)) (next : Next)
-      → next ≡ nexts.More → IsWhole (take n held) → held' ≡ drop n held
-      → (left : Option (List ℕ)) × Steps asks commands old (take n held) before after left new next
-      → AnswersHeld asks commands old held before after held' new true
-  held-more old new held held' n before after next is whole dropped step =
-      let (left, (out, rest, goes, first, written)) =
-      subst (λ k. (left : Option (List ℕ)) × Steps asks commands old (take n held) before after left new k) is step in
-      subst (λ h. AnswersHeld asks commands old held before after h new true) (sym dropped) (
-        out,
-        written,
-        λ more. subst (λ t. AnswersFirst asks commands old (Some t) out new (Some (drop n held ++ more))) (sym (held-parts held more n))
-            (whole-more old new (take n held) out rest whole first (drop n held ++ more)),
-      )
+  -- a step over whole bytes at the front of what is held, after which the connection is closed or goes on
+  held-left : (old new : D) (held rest : List ℕ) (n : ℕ) (out : List ℕ) (closes : Bool) → IsWhole (take n held)
+      → AnswersFirst asks commands old (Some (take n held)) out new (left_if closes rest)
+      → (more : List ℕ) → AnswersFirst asks commands old (Some (held ++ more)) out new (left_of (not closes) (drop n held ++ more))
+  held-left old new held rest n out true whole first more =
+      subst (λ t. AnswersFirst asks commands old (Some t) out new None) (sym (held-parts held more n))
+      (whole-closed old new (take n held) out whole first (drop n held ++ more))
+  held-left old new held rest n out false whole first more =
+      subst (λ t. AnswersFirst asks commands old (Some t) out new (Some (drop n held ++ more))) (sym (held-parts held more n))
+      (whole-more old new (take n held) out rest whole first (drop n held ++ more))
 
-  -- and one after which it is closed
-  pub held-closed : (old new : D) (held held' : List ℕ) (n : ℕ) (before after : Option (List ℕ)) (next : Next)
-      → next ≡ nexts.Closed → IsWhole (take n held)
-      → (left : Option (List ℕ)) × Steps asks commands old (take n held) before after left new next
-      → AnswersHeld asks commands old held before after held' new false
-  held-closed old new held held' n before after next is whole step =
-      let (left, (out, first, written)) =
-      subst (λ k. (left : Option (List ℕ)) × Steps asks commands old (take n held) before after left new k) is step in (
+  pub held-answered : (old new : D) (held held' : List ℕ) (n : ℕ) (before after : Option (List ℕ)) (found : Option RequestOutcome)
+      (outcome : RequestOutcome) → found ≡ Some outcome → IsWhole (take n held) → held' ≡ drop n held
+      → (left : Option (List ℕ)) × Steps asks commands old (take n held) before after left new found
+      → AnswersAs asks commands old held before after held' new outcome
+  held-answered old new held held' n before after found outcome is whole dropped step =
+      let (left, (out, rest, goes, first, written, what)) =
+      subst (λ o. (left : Option (List ℕ)) × Steps asks commands old (take n held) before after left new o) is step in
+      subst (λ h. AnswersAs asks commands old held before after h new outcome) (sym dropped) (
         out,
         written,
-        λ more. subst (λ t. AnswersFirst asks commands old (Some t) out new None) (sym (held-parts held more n))
-            (whole-closed old new (take n held) out whole first (drop n held ++ more)),
+        held-left old new held rest n out outcome.closes whole first,
+        (take n held, sym (take-append-drop n held), what),
       )
 
   -- there is always one
-  pub held-over : (old new : D) (held : List ℕ) (n : ℕ) (before after : Option (List ℕ)) (next : Next)
-      → next ≡ nexts.Over → IsWhole (take n held)
-      → (left : Option (List ℕ)) × Steps asks commands old (take n held) before after left new next → ⊥
-  held-over old new held n before after next is whole step =
+  pub held-over : (old new : D) (held : List ℕ) (n : ℕ) (before after : Option (List ℕ)) (found : Option RequestOutcome)
+      → found ≡ None → IsWhole (take n held)
+      → (left : Option (List ℕ)) × Steps asks commands old (take n held) before after left new found → ⊥
+  held-over old new held n before after found is whole step =
       let (left, (none, same, kept)) =
-      subst (λ k. (left : Option (List ℕ)) × Steps asks commands old (take n held) before after left new k) is step in
+      subst (λ o. (left : Option (List ℕ)) × Steps asks commands old (take n held) before after left new o) is step in
       never-over (take n held) whole none
 
   -- a first response that was written in part

@@ -1,7 +1,7 @@
 -- Text that is short of a request gets one response or none, and nothing is left after it.
-use Rattle.std.proofs.Common.{◌≡◌, ◌<◌, ◌≤◌, ◌∷◌, [], List, ℕ, true, false, Some, None, refl}
+use Rattle.std.proofs.Common.{◌≡◌, ◌<◌, ◌≤◌, ◌∷◌, [], List, ℕ, Bool, true, false, Some, None, refl}
 use Rattle.std.proofs.Common.{sym, ap, subst, ◌∙◌, inl, inr, arith, append-nil, length}
-use Rattle.std.specs.Prelude.{Option, Result}
+use Rattle.std.specs.Prelude.{IfErr, IfOk, OnOk, Option, Result, Ok, Err}
 use Rattle.std.specs.Io.KnownBytes.{Appends}
 use Rattle.std.specs.declared.alloc.AllocError.{AllocError}
 use Rattle.std.proofs.KnownBytes.{Appends-kept, Appends-nil}
@@ -18,12 +18,11 @@ use Rattle.reg_messages.specs.Head.{Front, front_of, head, no_head, over, IsHead
 use Rattle.reg_messages.specs.Messages.{after_body, fields_of}
 use Rattle.reg_messages.specs.Reading.{IsShort}
 use Rattle.reg_messages.proofs.Heads.{front_of-over}
-use Rattle.reg_http.specs.Serve.{Answers, AnswersFront, AnswersHead}
+use Rattle.reg_http.specs.Serve.{Answers, AnswersFirst, AnswersFront, AnswersHead, left_if}
 use Rattle.reg_http.specs.ServeSteps.{Steps}
-use Rattle.reg_http.specs.declared.serving.Next.{Next}
+use Rattle.reg_http.specs.declared.outcome.RequestOutcome.{RequestOutcome}
 use Rattle.reg_http.specs.declared.serving.ServeError.{ServeError}
-use Rattle.reg_http.specs.declared.serving.Next.TheVariants as nexts
-use Rattle.reg_conversation.specs.Conversation.{FailsFirst, RepliesAll}
+use Rattle.reg_conversation.specs.Conversation.{EndsAs, FailsFirst, RepliesAll}
 
 -- nothing is short of a request
 pub over-nil : front_of [] ≡ over
@@ -56,17 +55,10 @@ module _ {D : Type 0} (asks : D → Query → Result Answer AllocError → D →
     | inr q ↦ (let closed : Some rest ≡ None = q.1.2 in absurd (cc))
   ]
 
-  last-step : (old new : D) (text : List ℕ) (before after left : Option (List ℕ)) (next : Next) → IsShort (front_of text)
-      → Steps asks commands old text before after left new next → RepliesAll asks commands old text before after new
-  last-step old new text before after left nexts.Over short (none, same, kept) = (
-    [],
-    Some text,
-    (same, refl),
-    none,
-    λ few. ([], Some text, (same, refl), inl none, refl, few, refl),
-    Appends-kept before before after [] (Appends-nil before) kept,
-  )
-  last-step old new text before after left nexts.Closed short (out, first, written) =
+  last-left : (old new : D) (text out rest : List ℕ) (before after : Option (List ℕ)) (closes : Bool) → IsShort (front_of text)
+      → AnswersFirst asks commands old (Some text) out new (left_if closes rest) → Appends before after out
+      → RepliesAll asks commands old text before after new
+  last-left old new text out rest before after true short first written =
       let answers : Answers asks commands old (Some text) (out ∷ []) new None = (new, None, first, (refl, refl)) in (
         out ∷ [],
         None,
@@ -75,7 +67,7 @@ module _ {D : Type 0} (asks : D → Query → Result Answer AllocError → D →
         λ few. (out ∷ [], None, answers, inl tt, refl, few, refl),
         subst (Appends before after) (sym (append-nil out)) written,
       )
-  last-step old new text before after left nexts.More short (out, rest, is, first, written) =
+  last-left old new text out rest before after false short first written =
       let answers : Answers asks commands old (Some text) (out ∷ []) new (Some rest) = (new, Some rest, first, (refl, refl)) in
       let none : front_of rest ≡ over = last-front old new (front_of text) out rest short first in (
         out ∷ [],
@@ -86,19 +78,50 @@ module _ {D : Type 0} (asks : D → Query → Result Answer AllocError → D →
         subst (Appends before after) (sym (append-nil out)) written,
       )
 
-  -- the same over those bytes, by another name
-  pub last-replies : (old new : D) (text part : List ℕ) (before after : Option (List ℕ)) (next : Next)
-      → IsShort (front_of text) → part ≡ text
-      → (left : Option (List ℕ)) × Steps asks commands old part before after left new next
-      → RepliesAll asks commands old text before after new
-  last-replies old new text part before after next short is step =
-      let (left, done) = subst (λ p. (left : Option (List ℕ)) × Steps asks commands old p before after left new next) is step in
-      last-step old new text before after left next short done
+  last-step : (old new : D) (text : List ℕ) (before after left : Option (List ℕ)) (found : Option RequestOutcome) → IsShort (front_of text)
+      → Steps asks commands old text before after left new found
+      → RepliesAll asks commands old text before after new × EndsAs text before after found
+  last-step old new text before after left None short (none, same, kept) = (
+    (
+      [],
+      Some text,
+      (same, refl),
+      none,
+      λ few. ([], Some text, (same, refl), inl none, refl, few, refl),
+      Appends-kept before before after [] (Appends-nil before) kept,
+    ),
+    kept,
+  )
+  last-step old new text before after left (Some outcome) short (out, rest, goes, first, written, what) =
+      (last-left old new text out rest before after outcome.closes short first written, (out, written, what))
 
-  pub last-fails : {W : Type 0} (writer writer' : Device W) (old new : D)
-      (text part : List ℕ) (before after : Option (List ℕ)) (e : ServeError)
-      → part ≡ text
-      → FailsFirst asks commands writer writer' old part before after new e
-      → FailsFirst asks commands writer writer' old text before after new e
-  last-fails writer writer' old new text part before after e is fails =
+  -- the same over those bytes, by another name
+  last-replies : (old new : D) (text part : List ℕ) (before after : Option (List ℕ)) (found : Option RequestOutcome)
+      → IsShort (front_of text) → part ≡ text
+      → (left : Option (List ℕ)) × Steps asks commands old part before after left new found
+      → RepliesAll asks commands old text before after new × EndsAs text before after found
+  last-replies old new text part before after found short is step =
+      let (left, done) = subst (λ p. (left : Option (List ℕ)) × Steps asks commands old p before after left new found) is step in
+      last-step old new text before after left found short done
+
+  pub last-answered : (r : Result (Option RequestOutcome) ServeError) (old new : D) (text part : List ℕ) (before after : Option (List ℕ))
+      → IsShort (front_of text) → part ≡ text
+      → IfOk r (λ found. (left : Option (List ℕ)) × Steps asks commands old part before after left new found)
+      → OnOk r (RepliesAll asks commands old text before after new)
+  last-answered (Ok found) old new text part before after short is step = (last-replies old new text part before after found short is step).0
+  last-answered (Err e) old new text part before after short is step = tt
+
+  pub last-told : (r : Result (Option RequestOutcome) ServeError) (old new : D) (text part : List ℕ) (before after : Option (List ℕ))
+      → IsShort (front_of text) → part ≡ text
+      → IfOk r (λ found. (left : Option (List ℕ)) × Steps asks commands old part before after left new found)
+      → IfOk r (EndsAs text before after)
+  last-told (Ok found) old new text part before after short is step = (last-replies old new text part before after found short is step).1
+  last-told (Err e) old new text part before after short is step = tt
+
+  pub last-refused : {A W : Type 0} (r : Result A ServeError) (writer writer' : Device W) (old new : D) (text part : List ℕ)
+      (before after : Option (List ℕ)) → part ≡ text
+      → IfErr r (FailsFirst asks commands writer writer' old part before after new)
+      → IfErr r (FailsFirst asks commands writer writer' old text before after new)
+  last-refused (Ok x) writer writer' old new text part before after is fails = tt
+  last-refused (Err e) writer writer' old new text part before after is fails =
       subst (λ t. FailsFirst asks commands writer writer' old t before after new e) is fails

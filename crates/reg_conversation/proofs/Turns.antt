@@ -1,6 +1,6 @@
 -- The responses to the first requests of a text, and more.
 use Rattle.std.proofs.Common.{◌≡◌, ◌++◌, ◌∷◌, [], List, ℕ, Bool, true, false, Some, None, refl, sym, ap, subst, ◌∙◌, inl, inr, append-nil}
-use Rattle.std.specs.Prelude.{IfErr, OnOk, Option, Result, Ok, Err}
+use Rattle.std.specs.Prelude.{not, Option, Result}
 use Rattle.std.specs.Io.KnownBytes.{Appends}
 use Rattle.std.specs.declared.alloc.AllocError.{AllocError}
 use Rattle.std.proofs.KnownBytes.{Appends-nil, Appends-trans}
@@ -16,10 +16,11 @@ use Rattle.reg_messages.specs.Head.{front_of}
 use Rattle.reg_messages.specs.Reading.{IsShort}
 use Rattle.reg_responses.specs.Writing.{LosesWriter}
 use Rattle.reg_http.specs.Serve.{all_of, Answers}
+use Rattle.reg_http.specs.declared.outcome.RequestOutcome.{RequestOutcome}
 use Rattle.reg_http.specs.declared.serving.ServeError.{ServeError}
 use Rattle.reg_http.specs.declared.serving.ServeError.TheVariants as errors
 use Rattle.reg_http.proofs.Runs.{Answers-more}
-use Rattle.reg_conversation.specs.Conversation.{AnswersHeld, AnswersSome, AnswersWhole}
+use Rattle.reg_conversation.specs.Conversation.{AnswersAs, AnswersHeld, AnswersSome, AnswersWhole}
 use Rattle.reg_conversation.specs.Conversation.{FailsFirst, HasConversed, RepliesAll}
 use Rattle.reg_conversation.specs.Conversation.{Stops, left_of}
 
@@ -50,6 +51,12 @@ module _ {D : Type 0} (asks : D → Query → Result Answer AllocError → D →
         (left_of goes (held' ++ more)) outs out (conversed more) (first more)),
     subst (Appends before after) (sym (all_of-one outs out)) (Appends-trans before middle after (all_of outs) out written appends),
   )
+
+  -- what became of a request says that it was answered
+  pub as-held : (old new : D) (held held' : List ℕ) (before after : Option (List ℕ)) (outcome : RequestOutcome)
+      → AnswersAs asks commands old held before after held' new outcome
+      → AnswersHeld asks commands old held before after held' new (not outcome.closes)
+  as-held old new held held' before after outcome (out, written, first, what) = (out, written, first)
 
   -- one more response, of a call whose outcome is known, over what was held
   pub turn-more : (old mid new : D) (came held held0 held' : List ℕ) (before middle after : Option (List ℕ)) (goes known : Bool)
@@ -238,22 +245,17 @@ module _ {D : Type 0} (asks : D → Query → Result Answer AllocError → D →
   some-of old mid came held before middle goes is whole =
       subst (λ g. AnswersSome asks commands old came before middle held mid g) is whole.0
 
-  pub rest-replies : {A E : Type 0} (r : Result A E) (old mid new : D)
-      (came held : List ℕ) (before middle after : Option (List ℕ)) (goes : Bool)
-      → goes ≡ true
-      → AnswersWhole asks commands old came before middle held mid goes → OnOk r (RepliesAll asks commands mid held middle after new)
-      → OnOk r (RepliesAll asks commands old came before after new)
-  rest-replies (Ok x) old mid new came held before middle after goes is whole replies =
+  pub rest-replies : (old mid new : D) (came held : List ℕ) (before middle after : Option (List ℕ)) (goes : Bool) → goes ≡ true
+      → AnswersWhole asks commands old came before middle held mid goes → RepliesAll asks commands mid held middle after new
+      → RepliesAll asks commands old came before after new
+  rest-replies old mid new came held before middle after goes is whole replies =
       replies-rest old mid new came held before middle after (some-of old mid came held before middle goes is whole) replies
-  rest-replies (Err e) old mid new came held before middle after goes is whole replies = tt
 
-  pub rest-stops : {A W : Type 0} (r : Result A ServeError) (start writer writer' : Device W)
-      (old mid new : D) (came held : List ℕ) (before middle after : Option (List ℕ))
-      (goes : Bool) → goes ≡ true → faults_of writer ≡ faults_of start → AnswersWhole asks commands old came before middle held mid goes
-      → IfErr r (FailsFirst asks commands writer writer' mid held middle after new)
-      → IfErr r (Stops asks commands start writer' old came before after new)
-  rest-stops (Ok x) start writer writer' old mid new came held before middle after goes is same whole fails = tt
-  rest-stops (Err e) start writer writer' old mid new came held before middle after goes is same whole fails =
+  pub rest-stops : {W : Type 0} (start writer writer' : Device W) (old mid new : D) (came held : List ℕ)
+      (before middle after : Option (List ℕ)) (e : ServeError) (goes : Bool) → goes ≡ true → faults_of writer ≡ faults_of start
+      → AnswersWhole asks commands old came before middle held mid goes
+      → FailsFirst asks commands writer writer' mid held middle after new e → Stops asks commands start writer' old came before after new e
+  rest-stops start writer writer' old mid new came held before middle after e goes is same whole fails =
       stops-last start writer writer' old mid new came held before middle after e same
       (some-of old mid came held before middle goes is whole) fails
 

@@ -1,6 +1,6 @@
 -- What is answered on a connection, of whose text only a front has come.
-use Rattle.std.specs.Prelude.{◌≡◌, ◌<◌, ◌≤◌, ℕ, List, ◌++◌, Bool, true, false, length, Option, Some, None, Result}
-use Rattle.std.specs.Io.KnownBytes.{Appends}
+use Rattle.std.specs.Prelude.{◌≡◌, ◌<◌, ◌≤◌, ℕ, List, ◌++◌, Bool, true, false, not, length, Option, Some, None, Result}
+use Rattle.std.specs.Io.KnownBytes.{Appends, Keeps}
 use Rattle.std.specs.declared.alloc.AllocError.{AllocError}
 use Rattle.reg_leader.specs.declared.command.Command.{Command}
 use Rattle.reg_leader.specs.declared.reply.Reply.{Reply}
@@ -12,8 +12,9 @@ use Rattle.reg_messages.specs.Reading.{IsShort}
 use Rattle.reg_responses.specs.Writing.{LosesWriter}
 use Rattle.reg_messages.specs.Extent.{TakesInAll}
 use Rattle.reg_http.specs.Serve.{all_of, Answers, AnswersFirst, IsOutput, IsOver, StopsInNext}
-use Rattle.reg_http.specs.ServeSteps.{LosesStep}
+use Rattle.reg_http.specs.ServeSteps.{IsOutcome, LosesStep}
 use Rattle.reg_http.specs.declared.limits.TheConstants.{REQUESTS_LIMIT}
+use Rattle.reg_http.specs.declared.outcome.RequestOutcome.{RequestOutcome}
 use Rattle.reg_http.specs.declared.serving.ServeError.{ServeError}
 use Rattle.reg_http.specs.declared.serving.ServeError.TheVariants as errors
 
@@ -26,12 +27,23 @@ abbrev pub left_of : Bool → List ℕ → Option (List ℕ)
 left_of true rest = Some rest
 left_of false rest = None
 
+-- what became of what is held last: nothing was written, as no request was begun, or a response
+abbrev pub EndsAs : List ℕ → Option (List ℕ) → Option (List ℕ) → Option RequestOutcome → Type 0
+EndsAs held before after None = Keeps before after
+EndsAs held before after (Some outcome) = (out : List ℕ) × Appends before after out × IsOutcome held out outcome
+
 module _ {D : Type 0} (asks : D → Query → Result Answer AllocError → D → Type 0) (commands : D → Command → Reply → D → Type 0) where
   -- one response was written: whatever comes later, it is that to the first request of the whole text, and what is held then stands
   -- after it, or the connection is closed
   abbrev pub AnswersHeld : D → List ℕ → Option (List ℕ) → Option (List ℕ) → List ℕ → D → Bool → Type 0
   AnswersHeld old held before after held' new goes = (out : List ℕ) × Appends before after out
       × ((more : List ℕ) → AnswersFirst asks commands old (Some (held ++ more)) out new (left_of goes (held' ++ more)))
+
+  -- the same, and what became of that request, behind which what is held then stands
+  abbrev pub AnswersAs : D → List ℕ → Option (List ℕ) → Option (List ℕ) → List ℕ → D → RequestOutcome → Type 0
+  AnswersAs old held before after held' new outcome = (out : List ℕ) × Appends before after out
+      × ((more : List ℕ) → AnswersFirst asks commands old (Some (held ++ more)) out new (left_of (not outcome.closes) (held' ++ more)))
+      × ((request : List ℕ) × (held ≡ request ++ held') × IsOutcome request out outcome)
 
   -- whatever comes later, these are the responses to the first requests of the whole text, of which so much came
   abbrev pub HasConversed : D → List ℕ → List (List ℕ) → D → List ℕ → Bool → Type 0

@@ -6,9 +6,9 @@ ghost use Rattle.reg_messages.specs.Reading.{IsShort};
 ghost use Rattle.reg_responses.specs.declared.limits.TheConstants.{INTERRUPTION_LIMIT};
 ghost use Rattle.reg_messages.specs.Extent.{IsWhole, LacksHead};
 ghost use Rattle.reg_http.specs.ServeSteps.{Steps};
-ghost use Rattle.reg_conversation.specs.Conversation.{AnswersHeld, FailsFirst, IsNeeded, RepliesAll};
+ghost use Rattle.reg_conversation.specs.Conversation.{AnswersAs, EndsAs, FailsFirst, IsNeeded, RepliesAll};
 
-use reg_http::{Desk, Next, Paths, ServeError, answer_got};
+use reg_http::{Desk, Paths, RequestOutcome, ServeError, answer_got};
 use reg_messages::{message_in, message_len};
 use reg_records::Device;
 use std::alloc::{AllocError, Global};
@@ -114,7 +114,7 @@ impl Conversation {
     }
 
     /// Answers the request at the front, which is whole and takes so many bytes, as it is answered in
-    /// any text that goes on from here. Says whether the connection goes on. The only error is a `WriteFault`.
+    /// any text that goes on from here, and says what became of it. The only error is a `WriteFault`.
     pub fn answer_front<W: Write, D: Desk>(
         &mut self,
         alloc: Global,
@@ -122,11 +122,11 @@ impl Conversation {
         len: usize,
         writer: &mut Device<W>,
         desk: &mut D,
-    ) -> Result<bool, ServeError>
+    ) -> Result<RequestOutcome, ServeError>
         requires fits { len ≤ length self.old }
         requires whole { IsWhole (take len self.old) }
         requires few { interruptions_of writer.old ≤ INTERRUPTION_LIMIT }
-        ensures answered { IfOk result (AnswersHeld D.asks D.commands desk.old self.old
+        ensures answered { IfOk result (AnswersAs D.asks D.commands desk.old self.old
             (bytes_in W.contents writer.old) (bytes_in W.contents writer.new) self.new desk.new) }
         ensures refused { IfErr result (λ e. (more : List ℕ) → FailsFirst D.asks D.commands writer.old writer.new desk.old (self.old ++ more)
             (bytes_in W.contents writer.old) (bytes_in W.contents writer.new) desk.new e) }
@@ -135,26 +135,26 @@ impl Conversation {
         ensures interruptions { interruptions_of writer.new ≤ INTERRUPTION_LIMIT }
     {
         match self.answer_held(alloc, paths, len, writer, desk) {
-            Ok(Next::More) => Ok(true),
-            Ok(Next::Closed) => Ok(false),
-            Ok(Next::Over) => unreachable!(),
+            Ok(Some(outcome)) => Ok(outcome),
+            Ok(None) => unreachable!(),
             Err(e) => Err(e),
         }
     }
 
     /// Answers what is held, which is short of a request, where nothing comes any more: it gets one
-    /// response, or none where no request is begun. The only error is a `WriteFault`.
+    /// response, or none where no request is begun, and says what became of it. The only error is a `WriteFault`.
     pub fn answer_last<W: Write, D: Desk>(
         &mut self,
         alloc: Global,
         paths: &mut Option<Paths>,
         writer: &mut Device<W>,
         desk: &mut D,
-    ) -> Result<(), ServeError>
+    ) -> Result<Option<RequestOutcome>, ServeError>
         requires short { IsShort (front_of self.old) }
         requires few { interruptions_of writer.old ≤ INTERRUPTION_LIMIT }
         ensures answered { OnOk result (RepliesAll D.asks D.commands desk.old self.old
             (bytes_in W.contents writer.old) (bytes_in W.contents writer.new) desk.new) }
+        ensures outcome { IfOk result (EndsAs self.old (bytes_in W.contents writer.old) (bytes_in W.contents writer.new)) }
         ensures refused { IfErr result (FailsFirst D.asks D.commands writer.old writer.new desk.old self.old
             (bytes_in W.contents writer.old) (bytes_in W.contents writer.new) desk.new) }
         ensures dropped { self.new ≡ [] }
@@ -162,10 +162,7 @@ impl Conversation {
         ensures interruptions { interruptions_of writer.new ≤ INTERRUPTION_LIMIT }
     {
         let len = self.held_len();
-        match self.answer_held(alloc, paths, len, writer, desk) {
-            Ok(_) => Ok(()),
-            Err(e) => Err(e),
-        }
+        self.answer_held(alloc, paths, len, writer, desk)
     }
 
     /// Drops so many bytes, and answers the request at their front, as if nothing came after them.
@@ -176,11 +173,11 @@ impl Conversation {
         len: usize,
         writer: &mut Device<W>,
         desk: &mut D,
-    ) -> Result<Next, ServeError>
+    ) -> Result<Option<RequestOutcome>, ServeError>
         requires fits { len ≤ length self.old }
         requires few { interruptions_of writer.old ≤ INTERRUPTION_LIMIT }
-        ensures step { IfOk result (λ next. (left : Option (List ℕ)) × Steps D.asks D.commands desk.old (take len self.old)
-            (bytes_in W.contents writer.old) (bytes_in W.contents writer.new) left desk.new next) }
+        ensures step { IfOk result (λ outcome. (left : Option (List ℕ)) × Steps D.asks D.commands desk.old (take len self.old)
+            (bytes_in W.contents writer.old) (bytes_in W.contents writer.new) left desk.new outcome) }
         ensures refused { IfErr result (FailsFirst D.asks D.commands writer.old writer.new desk.old (take len self.old)
             (bytes_in W.contents writer.old) (bytes_in W.contents writer.new) desk.new) }
         ensures dropped { self.new ≡ drop len self.old }
@@ -190,7 +187,7 @@ impl Conversation {
         let got = message_in(alloc, &self.held[..len]);
         self.drop_front(len);
         match answer_got(alloc, paths, got, writer, desk) {
-            Ok(next) => Ok(next),
+            Ok(outcome) => Ok(outcome),
             Err(_) => Err(ServeError::WriteFault),
         }
     }

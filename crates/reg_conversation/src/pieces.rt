@@ -39,8 +39,11 @@ pub fn answer_whole<W: Write, D: Desk>(
 {
     while let Some(len) = conversation.front_len() {
         match conversation.answer_front(alloc, paths, len, writer, desk) {
-            Ok(true) => {}
-            Ok(false) => return Ok(false),
+            Ok(outcome) => {
+                if outcome.closes {
+                    return Ok(false);
+                }
+            }
             Err(e) => return Err(e),
         }
     }
@@ -91,7 +94,10 @@ pub fn answer_rest<W: Write, D: Desk>(
     ensures interruptions { interruptions_of writer.new ≤ INTERRUPTION_LIMIT }
 {
     match answer_whole(alloc, paths, conversation, writer, desk) {
-        Ok(true) => conversation.answer_last(alloc, paths, writer, desk),
+        Ok(true) => match conversation.answer_last(alloc, paths, writer, desk) {
+            Ok(_) => Ok(()),
+            Err(e) => Err(e),
+        },
         Ok(false) => Ok(()),
         Err(e) => Err(e),
     }

@@ -1,5 +1,5 @@
 -- What was read and done is the response to the first request of a text.
-use Rattle.std.proofs.Common.{◌≡◌, ◌⊎◌, List, [], ℕ, Bool, true, false, Some, None, IfSome, refl, sym, ap, subst, inl, inr, ◌∙◌}
+use Rattle.std.proofs.Common.{◌≡◌, ◌⊎◌, List, [], ℕ, Bool, true, false, Some, None, refl, sym, ap, subst, inl, inr, ◌∙◌}
 use Rattle.std.specs.Prelude.{◌||◌, IsOk, Ok, Err, Option, Result}
 use Rattle.std.specs.Io.KnownBytes.{Appends}
 use Rattle.std.specs.declared.alloc.AllocError.{AllocError}
@@ -18,12 +18,17 @@ use Rattle.reg_messages.specs.declared.request.Request.{Request}
 use Rattle.reg_requests.specs.Asked.{asked_of, asked_of_target}
 use Rattle.reg_requests.specs.declared.asked.Asked.{Asked}
 use Rattle.reg_requests.specs.declared.asked.Asked.TheVariants as asked
-use Rattle.reg_responses.specs.Response.{refusal_text}
+use Rattle.reg_refusals.specs.Refusal.{no_memory}
+use Rattle.reg_requests.specs.reg_routes.Endpoint.{endpoint_of, nowhere}
+use Rattle.reg_requests.specs.reg_routes.declared.endpoint.Endpoint.{Endpoint}
+use Rattle.reg_responses.specs.Reply.{reply_answer}
+use Rattle.reg_responses.specs.Response.{StatesStatus, refusal_text}
+use Rattle.reg_responses.proofs.States.{refusal-states, response-states}
 use Rattle.reg_http.specs.Requests.{request_of}
 use Rattle.reg_http.specs.Serve.{AnswersFirst, AnswersFront, AnswersHead, Does, LacksMemory, left_if}
-use Rattle.reg_http.specs.ServeSteps.{Attends, Did, Steps, done_closes, done_text, next_if}
-use Rattle.reg_http.specs.declared.attending.Attended.{Attended}
+use Rattle.reg_http.specs.ServeSteps.{Attends, Did, GoesBy, GoesTo, Steps, done_closes, done_status, done_text}
 use Rattle.reg_http.specs.declared.attending.Attended.TheVariants as attended
+use Rattle.reg_http.specs.declared.outcome.RequestOutcome.{RequestOutcome}
 use Rattle.reg_http.specs.declared.doing.Done.{Done}
 use Rattle.reg_http.specs.declared.doing.Done.TheVariants as dones
 
@@ -40,6 +45,22 @@ asked-refused r refusal told = rw told refl
 asked-told : (r : Request) (told : Option ℕ) → told_length r.fields ≡ Ok told → asked_of r ≡ asked_of_target r told
 unfolding asked_of
 asked-told r told is = rw is refl
+
+-- a request that was read goes where its head says, or memory was refused
+goes-message : (text : List ℕ) (wants : Bool) (request : Request) (endpoint : Endpoint) (done : Done) (bytes : List ℕ) (h : RequestHead)
+    (after : List ℕ) → front_of text ≡ head bytes after → IsHead bytes h → request ≡ request_of h after → GoesBy request endpoint done
+    → GoesTo text (done_text wants done) endpoint
+goes-message text wants request endpoint done bytes h after front is same goes = elim goes [
+  | inl there ↦ inl (bytes, after, h, front, is, there ∙ ap (λ (r : Request). endpoint_of r.method r.target) same)
+  | inr p ↦ inr (p.0, inr (wants, ap (λ d. done_text wants d) p.1))
+]
+
+-- a response states its status
+pub done-states : (wants : Bool) (done : Done) → StatesStatus (done_text wants done) (done_status done)
+done-states wants (dones.Answered answer) = response-states answer.status None wants answer.body
+done-states wants (dones.Replied reply) = response-states (reply_answer reply).status None wants (reply_answer reply).body
+done-states wants (dones.Refused refusal ends) = refusal-states (wants || ends) refusal
+done-states wants dones.NoMemory = refusal-states wants no_memory
 
 module _ {D : Type 0} (asks : D → Query → Result Answer AllocError → D → Type 0) (commands : D → Command → Reply → D → Type 0) where
   -- what was done is the response to what was asked
@@ -77,11 +98,12 @@ module _ {D : Type 0} (asks : D → Query → Result Answer AllocError → D →
       subst (λ f. AnswersFront asks commands old f out new left) (sym front) (inl (h, is, answers))
 
   pub attends-request : (old new : D) (text : List ℕ) (left : Option (List ℕ))
-      (request : Request) (told : Option ℕ) (wants : Bool) (done : Done)
+      (request : Request) (told : Option ℕ) (wants : Bool) (endpoint : Endpoint) (done : Done)
       → GetsFrom text left (gots.Message request told wants)
       → Did asks commands old (asked_of_target request told) new done
-      → Attends asks commands old text left new (attended.Done done wants)
-  attends-request old new text left request told wants done (bytes, h, after, (front, is, ok, rest), same, length, wanted) did =
+      → GoesBy request endpoint done
+      → Attends asks commands old text left new (attended.Done endpoint done wants)
+  attends-request old new text left request told wants endpoint done (bytes, h, after, (front, is, ok, rest), same, length, wanted) did goes =
       let asks_same = ap (λ r. asked_of_target r told) same ∙ sym (asked-told (request_of h after) told length) in
       let answers = did-answers old new h (asked_of (request_of h after)) done ok
       (subst (λ a. Did asks commands old a new done) asks_same did) in (
@@ -92,24 +114,27 @@ module _ {D : Type 0} (asks : D → Query → Result Answer AllocError → D →
             (head-answers old new text bytes h after wants (done_text (wants_close h) done)
             (left_if (done_closes (wants_close h) done) (after_body h after)) front is
             (done_closes (wants_close h) done, refl, answers)),
+        goes-message text wants request endpoint done bytes h after front is same goes,
       )
 
   pub attends-no_memory : (old : D) (text : List ℕ) (left : Option (List ℕ)) (wants : Bool)
-      → GetsFrom text left (gots.NoMemory wants) → Attends asks commands old text left old (attended.Done dones.NoMemory wants)
+      → GetsFrom text left (gots.NoMemory wants) → Attends asks commands old text left old (attended.Done nowhere dones.NoMemory wants)
   attends-no_memory old text left wants (bytes, h, after, (front, is, ok, rest), wanted) = (
     after_body h after,
     λ _. rest,
     head-answers old old text bytes h after wants (done_text wants dones.NoMemory) (left_if wants (after_body h after)) front is
         (wants, refl, inr (ok, wanted, refl, refl)),
+    inr (refl, inr (wants, refl)),
   )
 
   pub attends-refused : (old : D) (text : List ℕ) (left : Option (List ℕ)) (refusal : Refusal)
-      → IsRefusedAt text refusal → Attends asks commands old text left old (attended.Done (dones.Refused refusal true) true)
+      → IsRefusedAt text refusal → Attends asks commands old text left old (attended.Done nowhere (dones.Refused refusal true) true)
   attends-refused old text left refusal refused = elim refused [
     | inl front ↦ (
       [],
       λ e. absurd (cc),
       subst (λ f. AnswersFront asks commands old f (refusal_text true refusal) old None) (sym front) (refl, refl, refl),
+      inr (refl, inl (refusal, inl front, refl)),
     )
     | inr p ↦ (
       [],
@@ -128,20 +153,20 @@ module _ {D : Type 0} (asks : D → Query → Result Answer AllocError → D →
           ),
         )
       ]),
+      inr (refl, inl (refusal, inr p, refl)),
     )
   ]
 
-  -- a response was written, after which the connection is closed or goes on
-  written : (old new : D) (text out rest : List ℕ) (left before after : Option (List ℕ)) (closes : Bool)
-      → (closes ≡ false → left ≡ Some rest) → AnswersFirst asks commands old (Some text) out new (left_if closes rest)
-      → Appends before after out → Steps asks commands old text before after left new (next_if closes)
-  written old new text out rest left before after true goes first appends = (out, first, appends)
-  written old new text out rest left before after false goes first appends = (out, rest, goes refl, first, appends)
-
   -- what was done of the first request, once its response is written
-  pub steps-written : (old new : D) (text : List ℕ) (left before after : Option (List ℕ)) (done : Done) (wants closes : Bool)
-      → closes ≡ done_closes wants done → Attends asks commands old text left new (attended.Done done wants)
-      → Appends before after (done_text wants done) → Steps asks commands old text before after left new (next_if closes)
-  steps-written old new text left before after done wants closes is (rest, goes, first) appends =
-      written old new text (done_text wants done) rest left before after closes (λ e. goes (sym is ∙ e))
-      (subst (λ c. AnswersFirst asks commands old (Some text) (done_text wants done) new (left_if c rest)) (sym is) first) appends
+  pub steps-written : (old new : D) (text : List ℕ) (left before after : Option (List ℕ)) (done : Done) (wants : Bool) (outcome : RequestOutcome)
+      → outcome.closes ≡ done_closes wants done → outcome.status ≡ done_status done
+      → Attends asks commands old text left new (attended.Done outcome.endpoint done wants)
+      → Appends before after (done_text wants done) → Steps asks commands old text before after left new (Some outcome)
+  steps-written old new text left before after done wants outcome closes status (rest, goes, first, there) appends = (
+    done_text wants done,
+    rest,
+    λ e. goes (sym closes ∙ e),
+    subst (λ c. AnswersFirst asks commands old (Some text) (done_text wants done) new (left_if c rest)) (sym closes) first,
+    appends,
+    record { status = subst (StatesStatus (done_text wants done)) (sym status) (done-states wants done); endpoint = there },
+  )

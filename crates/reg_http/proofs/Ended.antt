@@ -1,39 +1,25 @@
 -- What the writer's last call answered, after a step and after all steps.
-use Rattle.std.proofs.Common.{◌≡◌, ◌<◌, ◌+◌, ℕ, List, ◌∙◌, arith, subst, sym, true, false, refl}
-use Rattle.std.specs.Prelude.{⊤, Bool, IfErr, IfOk, Result, Ok, Err}
+use Rattle.std.proofs.Common.{◌≡◌, ◌+◌, ℕ, List, ◌∙◌, arith, subst, sym, None, Some}
+use Rattle.std.specs.Prelude.{⊤, Option, Result, Ok}
 use Rattle.std.specs.declared.io.Error.{Error}
 use Rattle.reg_records.specs.Device.{inner_of}
 use Rattle.reg_records.specs.declared.device.Device.{Device}
-use Rattle.reg_responses.specs.Writing.{IsFlushed, IsLostBy}
+use Rattle.reg_responses.specs.Writing.{IsFlushed}
 use Rattle.reg_http.specs.Ends.{EndsAfter, EndsRefused, EndsStep, EndsStepRefused}
-use Rattle.reg_http.specs.ServeSteps.{next_if}
-use Rattle.reg_http.specs.declared.serving.Next.{Next}
-use Rattle.reg_http.specs.declared.serving.Next.TheVariants as nexts
+use Rattle.reg_http.specs.declared.outcome.RequestOutcome.{RequestOutcome}
 use Rattle.reg_http.specs.declared.serving.ServeError.{ServeError}
 use Rattle.reg_http.specs.declared.serving.ServeError.TheVariants as errors
 
 module _ {W : Type 0} (writes : W → List ℕ → Result ℕ Error → W → Type 0) (flushes : W → Result ⊤ Error → W → Type 0) where
-  -- a response that is flushed ends a step, whether the connection is closed or not
-  pub EndsStep-flushed : (before after : Device W) (closes : Bool)
-      → IsFlushed writes flushes after → EndsStep writes flushes before after (next_if closes)
-  EndsStep-flushed before after true flushed = flushed
-  EndsStep-flushed before after false flushed = flushed
-
   -- after no request
   pub EndsAfter-begun : (before after : Device W) → inner_of after ≡ inner_of before → EndsAfter writes flushes 0 before after
   EndsAfter-begun before after same = (λ _. same, λ some. absurd (omega (arith, some)))
 
   -- after one more request
-  pub EndsAfter-more : (before mid after : Device W) (count : ℕ) (next : Next) → next ≡ nexts.More → EndsStep writes flushes mid after next
-      → EndsAfter writes flushes (count + 1) before after
-  EndsAfter-more before mid after count next is ends =
-      (λ none. absurd (omega (arith, none)), λ _. subst (λ n. EndsStep writes flushes mid after n) is ends)
-
-  pub EndsAfter-closed : (before mid after : Device W) (count : ℕ) (next : Next)
-      → next ≡ nexts.Closed → EndsStep writes flushes mid after next
-      → EndsAfter writes flushes (count + 1) before after
-  EndsAfter-closed before mid after count next is ends =
-      (λ none. absurd (omega (arith, none)), λ _. subst (λ n. EndsStep writes flushes mid after n) is ends)
+  pub EndsAfter-more : (before mid after : Device W) (count : ℕ) (found : Option RequestOutcome) (outcome : RequestOutcome)
+      → found ≡ Some outcome → EndsStep writes flushes mid after found → EndsAfter writes flushes (count + 1) before after
+  EndsAfter-more before mid after count found outcome is ends =
+      (λ none. absurd (omega (arith, none)), λ _. subst (λ o. EndsStep writes flushes mid after o) is ends)
 
   moved : (mid after : Device W) → inner_of after ≡ inner_of mid → IsFlushed writes flushes mid → IsFlushed writes flushes after
   moved mid after same (before, flushed) = (before, subst (λ w. flushes before (Ok tt) w) (sym same) flushed)
@@ -43,10 +29,10 @@ module _ {W : Type 0} (writes : W → List ℕ → Result ℕ Error → W → Ty
       → EndsAfter writes flushes count before after
   EndsAfter-kept before mid after count same (none, some) = (λ e. same ∙ none e, λ e. moved mid after same (some e))
 
-  pub EndsAfter-over : (before mid after : Device W) (count : ℕ) (next : Next) → next ≡ nexts.Over → EndsStep writes flushes mid after next
-      → EndsAfter writes flushes count before mid → EndsAfter writes flushes count before after
-  EndsAfter-over before mid after count next is ends =
-      EndsAfter-kept before mid after count (subst (λ n. EndsStep writes flushes mid after n) is ends)
+  pub EndsAfter-over : (before mid after : Device W) (count : ℕ) (found : Option RequestOutcome) → found ≡ None
+      → EndsStep writes flushes mid after found → EndsAfter writes flushes count before mid → EndsAfter writes flushes count before after
+  EndsAfter-over before mid after count found is ends =
+      EndsAfter-kept before mid after count (subst (λ o. EndsStep writes flushes mid after o) is ends)
 
   -- where a step failed
   pub EndsRefused-step : (before mid after : Device W) (count : ℕ) (e : ServeError) → EndsAfter writes flushes count before mid

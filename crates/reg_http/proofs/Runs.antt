@@ -1,7 +1,7 @@
 -- The responses to the first requests of a text, and one more.
 use Rattle.std.proofs.Common.{◌≡◌, ◌≤◌, ◌<◌, ◌+◌, ℕ, List, [], ◌∷◌, ◌++◌, refl, sym, ap, subst, ◌∙◌, inl, inr}
 use Rattle.std.proofs.Common.{arith, append-nil, length, length-append, IfSome, Some, None, true, false}
-use Rattle.std.specs.Prelude.{Bool, IfErr, Option, Result, Ok, Err, option_map, unwrap_or}
+use Rattle.std.specs.Prelude.{Bool, Option, Result, option_map, unwrap_or}
 use Rattle.std.proofs.lemmas.Option.{none-some}
 use Rattle.std.specs.Io.KnownBytes.{Appends, Keeps}
 use Rattle.std.specs.declared.alloc.AllocError.{AllocError}
@@ -18,12 +18,11 @@ use Rattle.reg_messages.specs.Reading.{TakesShort}
 use Rattle.reg_messages.specs.Taking.{CountsReads, LosesReader}
 use Rattle.reg_responses.specs.Writing.{AppendsFront}
 use Rattle.reg_responses.proofs.Written.{IsLostSince-later, LosesWriter-later}
-use Rattle.reg_http.specs.Serve.{LosesRequest, ReadsForRequests, all_of, Answers, AnswersFirst}
+use Rattle.reg_http.specs.Serve.{LosesRequest, ReadsForRequests, all_of, left_if, Answers, AnswersFirst}
 use Rattle.reg_http.specs.Serve.{IsOutput, IsPart, IsServeRefusal, StopsBetween, StopsIn}
 use Rattle.reg_http.specs.ServeSteps.{HasAnswered, IsStepRefusal, LosesStep, Steps}
 use Rattle.reg_http.specs.declared.limits.TheConstants.{REQUESTS_LIMIT}
-use Rattle.reg_http.specs.declared.serving.Next.{Next}
-use Rattle.reg_http.specs.declared.serving.Next.TheVariants as nexts
+use Rattle.reg_http.specs.declared.outcome.RequestOutcome.{RequestOutcome}
 use Rattle.reg_http.specs.declared.serving.ServeError.{ServeError}
 use Rattle.reg_http.specs.declared.serving.ServeError.TheVariants as errors
 
@@ -85,27 +84,29 @@ module _ {D : Type 0} (asks : D → Query → Result Answer AllocError → D →
   HasAnswered-begun old input before after same =
       subst (λ a. HasAnswered asks commands old input 0 before a input old) (sym same) (HasAnswered-none old input before)
 
-  -- what a step did, whose outcome is known
-  step_of : (mid new : D) (middle after left rest : Option (List ℕ)) (next known : Next) → next ≡ known
-      → IfSome left (λ text. Steps asks commands mid text middle after rest new next)
+  -- what a step did, of which it is known whether there was a request
+  step_of : (mid new : D) (middle after left rest : Option (List ℕ)) (found known : Option RequestOutcome) → found ≡ known
+      → IfSome left (λ text. Steps asks commands mid text middle after rest new found)
       → IfSome left (λ text. Steps asks commands mid text middle after rest new known)
-  step_of mid new middle after left rest next known is step =
-      subst (λ n. IfSome left (λ text. Steps asks commands mid text middle after rest new n)) is step
+  step_of mid new middle after left rest found known is step =
+      subst (λ o. IfSome left (λ text. Steps asks commands mid text middle after rest new o)) is step
 
   -- the step that answers a request after which more may come
   pub HasAnswered-more : (old mid new : D) (input before middle after left rest : Option (List ℕ)) (count : ℕ)
       → HasAnswered asks commands old input count before middle left mid
-      → (next : Next) → next ≡ nexts.More → IfSome left (λ text. Steps asks commands mid text middle after rest new next)
+      → (found : Option RequestOutcome) (outcome : RequestOutcome) → found ≡ Some outcome → outcome.closes ≡ false
+      → IfSome left (λ text. Steps asks commands mid text middle after rest new found)
       → HasAnswered asks commands old input (count + 1) before after rest new
-  HasAnswered-more old mid new None before middle after left rest count done next more step = tt
+  HasAnswered-more old mid new None before middle after left rest count done found outcome known stays step = tt
   HasAnswered-more old mid new (Some text) before middle after left rest count
-      (outs, here, is, answers, counted, written) next is_more step =
-      let (out, more, goes, first, appends) = subst (λ l. IfSome l (λ t. Steps asks commands mid t middle after rest new nexts.More)) is
-      (step_of mid new middle after left rest next nexts.More is_more step) in (
+      (outs, here, is, answers, counted, written) found outcome known stays step =
+      let (out, more, goes, first, appends, what) = subst (λ l. IfSome l (λ t. Steps asks commands mid t middle after rest new (Some outcome))) is
+      (step_of mid new middle after left rest found (Some outcome) known step) in (
         outs ++ out ∷ [],
         more,
-        goes,
-        Answers-more old mid new (Some text) (Some here) (Some more) outs out answers first,
+        goes stays,
+        Answers-more old mid new (Some text) (Some here) (Some more) outs out answers
+            (subst (λ c. AnswersFirst asks commands mid (Some here) out new (left_if c more)) stays first),
         ap (λ n. n + 1) counted ∙ sym (length-append outs (out ∷ [])),
         subst (Appends before after) (sym (all_of-more outs out)) (Appends-trans before middle after (all_of outs) out written appends),
       )
@@ -113,12 +114,12 @@ module _ {D : Type 0} (asks : D → Query → Result Answer AllocError → D →
   -- what is written once no request is left
   pub IsPart-over : (old mid new : D) (input before middle after left rest : Option (List ℕ)) (count : ℕ) → count ≤ REQUESTS_LIMIT
       → HasAnswered asks commands old input count before middle left mid
-      → (next : Next) → next ≡ nexts.Over → IfSome left (λ text. Steps asks commands mid text middle after rest new next)
+      → (found : Option RequestOutcome) → found ≡ None → IfSome left (λ text. Steps asks commands mid text middle after rest new found)
       → IfSome input (λ text. IsPart asks commands old text count false before after rest new)
-  IsPart-over old mid new None before middle after left rest count few done next ended step = tt
-  IsPart-over old mid new (Some text) before middle after left rest count few (outs, here, is, answers, counted, written) next ended step =
-      let (none, same, kept) = subst (λ l. IfSome l (λ t. Steps asks commands mid t middle after rest new nexts.Over)) is
-      (step_of mid new middle after left rest next nexts.Over ended step) in (
+  IsPart-over old mid new None before middle after left rest count few done found ended step = tt
+  IsPart-over old mid new (Some text) before middle after left rest count few (outs, here, is, answers, counted, written) found ended step =
+      let (none, same, kept) = subst (λ l. IfSome l (λ t. Steps asks commands mid t middle after rest new None)) is
+      (step_of mid new middle after left rest found None ended step) in (
         outs,
         Some here,
         subst (λ d. Answers asks commands old (Some text) outs d (Some here)) (sym same) answers,
@@ -131,14 +132,16 @@ module _ {D : Type 0} (asks : D → Query → Result Answer AllocError → D →
   -- what is written once a response closed the connection
   pub IsPart-closed : (old mid new : D) (input before middle after left rest : Option (List ℕ)) (count : ℕ) → count < REQUESTS_LIMIT
       → HasAnswered asks commands old input count before middle left mid
-      → (next : Next) → next ≡ nexts.Closed → IfSome left (λ text. Steps asks commands mid text middle after rest new next)
+      → (found : Option RequestOutcome) (outcome : RequestOutcome) → found ≡ Some outcome → outcome.closes ≡ true
+      → IfSome left (λ text. Steps asks commands mid text middle after rest new found)
       → IfSome input (λ text. IsPart asks commands old text (count + 1) false before after rest new)
-  IsPart-closed old mid new None before middle after left rest count few done next closed step = tt
+  IsPart-closed old mid new None before middle after left rest count few done found outcome known closed step = tt
   IsPart-closed old mid new (Some text) before middle after left rest count few
-      (outs, here, is, answers, counted, written) next closed step =
-      let (out, first, appends) = subst (λ l. IfSome l (λ t. Steps asks commands mid t middle after rest new nexts.Closed)) is
-      (step_of mid new middle after left rest next nexts.Closed closed step) in
-      let whole = Answers-more old mid new (Some text) (Some here) None outs out answers first in (
+      (outs, here, is, answers, counted, written) found outcome known closed step =
+      let (out, more, goes, first, appends, what) = subst (λ l. IfSome l (λ t. Steps asks commands mid t middle after rest new (Some outcome))) is
+      (step_of mid new middle after left rest found (Some outcome) known step) in
+      let last = subst (λ c. AnswersFirst asks commands mid (Some here) out new (left_if c more)) closed first in
+      let whole = Answers-more old mid new (Some text) (Some here) None outs out answers last in (
         outs ++ out ∷ [],
         None,
         whole,

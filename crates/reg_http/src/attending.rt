@@ -6,7 +6,7 @@ ghost use Rattle.reg_http.specs.ServeSteps.{Attends};
 use crate::desk::Desk;
 use crate::doing::{Done, do_request};
 use reg_messages::Got;
-use reg_requests::Paths;
+use reg_requests::{Endpoint, Paths};
 use std::alloc::Global;
 
 /// What became of the next request.
@@ -14,8 +14,12 @@ use std::alloc::Global;
 pub(crate) enum Attended {
     /// There was none.
     Over,
-    /// It is done; the client wants the connection closed after it or not.
-    Done { done: Done, wants_close: bool },
+    /// It went there and is done; the client wants the connection closed after it or not.
+    Done {
+        endpoint: Endpoint,
+        done: Done,
+        wants_close: bool,
+    },
 }
 
 /// Does what a message asks that was read.
@@ -31,6 +35,7 @@ pub(crate) fn attend<D: Desk>(
     match got {
         Got::Over => Attended::Over,
         Got::Refused(refusal) => Attended::Done {
+            endpoint: Endpoint::nowhere(),
             done: Done::Refused {
                 refusal,
                 closes: true,
@@ -41,11 +46,16 @@ pub(crate) fn attend<D: Desk>(
             request,
             told,
             wants_close,
-        } => Attended::Done {
-            done: do_request(alloc, paths, desk, &request, told),
-            wants_close,
-        },
+        } => {
+            let (endpoint, done) = do_request(alloc, paths, desk, &request, told);
+            Attended::Done {
+                endpoint,
+                done,
+                wants_close,
+            }
+        }
         Got::NoMemory { wants_close } => Attended::Done {
+            endpoint: Endpoint::nowhere(),
             done: Done::NoMemory,
             wants_close,
         },

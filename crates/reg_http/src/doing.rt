@@ -2,15 +2,18 @@
 ghost use Rattle.std.specs.Prelude.{◌≡◌, IfOk};
 ghost use Rattle.reg_requests.specs.Asked.{asked_of_target};
 ghost use Rattle.reg_responses.specs.Writing.{Ends, Writes};
-ghost use Rattle.reg_http.specs.ServeSteps.{Did, done_closes, done_text};
+ghost use Rattle.reg_requests.specs.reg_routes.Endpoint.{endpoint_of};
+ghost use Rattle.reg_http.specs.ServeSteps.{Did, GoesBy, done_closes, done_status, done_text};
 
 use crate::desk::Desk;
 use reg_leader::Reply;
 use reg_lookup::Answer;
 use reg_records::{Device, Output};
 use reg_refusals::Refusal;
-use reg_requests::{Asked, Paths, Request, route_told};
-use reg_responses::{WriteFault, write_answer, write_no_memory, write_refusal, write_reply};
+use reg_requests::{Asked, Endpoint, Paths, Request, route_told};
+use reg_responses::{
+    WriteFault, reply_status, write_answer, write_no_memory, write_refusal, write_reply,
+};
 use std::alloc::{AllocError, Global};
 
 /// What was done of a request.
@@ -24,43 +27,54 @@ pub(crate) enum Done {
     NoMemory,
 }
 
-/// Does what the request asks whose fields state a body of that length, or none.
+/// Does what the request asks whose fields state a body of that length, or none, and says where the request goes.
 pub(crate) fn do_request<D: Desk>(
     alloc: Global,
     paths: &mut Option<Paths>,
     desk: &mut D,
     request: &Request,
     told: Option<u64>,
-) -> Done
-    ensures { Did D.asks D.commands desk.old (asked_of_target request.now told) desk.new result }
+) -> (Endpoint, Done)
+    ensures did { Did D.asks D.commands desk.old (asked_of_target request.now told) desk.new result.1 }
+    ensures goes { GoesBy request.now result.0 result.1 }
 {
     match asked_by(alloc, paths, request, told) {
-        Ok(Asked::Query(query)) => match desk.ask(alloc, &query) {
-            Ok(answer) => Done::Answered(answer),
-            Err(_) => Done::NoMemory,
-        },
-        Ok(Asked::Command(command)) => Done::Replied(desk.command(&command)),
-        Ok(Asked::Refused { refusal, closes }) => Done::Refused { refusal, closes },
-        Err(_) => Done::NoMemory,
+        Ok((endpoint, asked)) => (endpoint, do_asked(alloc, desk, asked)),
+        Err(_) => (Endpoint::nowhere(), Done::NoMemory),
     }
 }
 
-/// What the request asks, by paths that are made where there are none, and kept.
+/// Does what is asked, or refuses it.
+fn do_asked<D: Desk>(alloc: Global, desk: &mut D, asked: Asked) -> Done
+    ensures { Did D.asks D.commands desk.old asked desk.new result }
+{
+    match asked {
+        Asked::Query(query) => match desk.ask(alloc, &query) {
+            Ok(answer) => Done::Answered(answer),
+            Err(_) => Done::NoMemory,
+        },
+        Asked::Command(command) => Done::Replied(desk.command(&command)),
+        Asked::Refused { refusal, closes } => Done::Refused { refusal, closes },
+    }
+}
+
+/// Where the request goes, and what it asks, by paths that are made where there are none, and kept.
 fn asked_by(
     alloc: Global,
     paths: &mut Option<Paths>,
     request: &Request,
     told: Option<u64>,
-) -> Result<Asked, AllocError>
-    ensures { IfOk result (λ asked. asked ≡ asked_of_target request.now told) }
+) -> Result<(Endpoint, Asked), AllocError>
+    ensures endpoint { IfOk result (λ found. found.0 ≡ endpoint_of request.now.method request.now.target) }
+    ensures asked { IfOk result (λ found. found.1 ≡ asked_of_target request.now told) }
 {
     let kept = match paths.take() {
         Some(kept) => kept,
         None => Paths::new(alloc)?,
     };
-    let asked = route_told(alloc, &kept, request, told);
+    let endpoint = kept.endpoint(request.method.as_str(), request.target.as_str());
     *paths = Some(kept);
-    asked
+    Ok((endpoint, route_told(alloc, endpoint, request, told)?))
 }
 
 /// Writes the response to what was done, where the client wants the connection closed or not.
@@ -87,5 +101,17 @@ pub(crate) fn closes_after(done: &Done, wants_close: bool) -> bool
     match done {
         Done::Refused { refusal: _, closes } => wants_close || *closes,
         Done::Answered(_) | Done::Replied(_) | Done::NoMemory => wants_close,
+    }
+}
+
+/// The status of that response.
+pub(crate) fn status_of(done: &Done) -> u16
+    ensures { result ≡ done_status done.now }
+{
+    match done {
+        Done::Answered(answer) => answer.status,
+        Done::Replied(reply) => reply_status(reply),
+        Done::Refused { refusal, closes: _ } => refusal.status(),
+        Done::NoMemory => 500,
     }
 }

@@ -5,11 +5,13 @@ mod attending;
 mod desk;
 mod doing;
 mod limits;
+mod outcome;
 mod serving;
 
 pub use desk::Desk;
 pub use limits::{REQUESTS_LIMIT, serving_limits_are_as_written};
+pub use outcome::RequestOutcome;
 pub use reg_messages::{HEAD_FIELDS, HEAD_LIMIT, HEAD_LINES, REQUEST_READS};
-pub use reg_requests::{Asked, HeaderField, Paths, Request, Routed};
+pub use reg_requests::{Asked, Endpoint, HeaderField, Paths, Request, Routed};
 pub use reg_responses::reply_answer;
-pub use serving::{Next, ServeError, Served, answer_got, answer_next, serve};
+pub use serving::{ServeError, Served, answer_got, answer_next, serve};

@@ -8,12 +8,13 @@ ghost use Rattle.reg_responses.specs.declared.limits.TheConstants.{INTERRUPTION_
 ghost use Rattle.reg_responses.specs.Writing.{IsLostBy, IsLostSince, LosesWriter};
 ghost use Rattle.reg_http.specs.Ends.{EndsAfter, EndsRefused, EndsStep, EndsStepRefused};
 ghost use Rattle.reg_http.specs.Serve.{IsOutput, IsPart, IsServeRefusal, ReadsForRequests};
-ghost use Rattle.reg_http.specs.ServeSteps.{IsStepRefusal, LosesStep, Steps, next_if};
+ghost use Rattle.reg_http.specs.ServeSteps.{IsStepRefusal, LosesStep, Steps};
 
 use crate::attending::{Attended, attend};
 use crate::desk::Desk;
-use crate::doing::{closes_after, write_done};
+use crate::doing::{closes_after, status_of, write_done};
 use crate::limits::REQUESTS_LIMIT;
+use crate::outcome::RequestOutcome;
 use reg_messages::{Got, read_message};
 use reg_records::{Device, Output};
 use reg_requests::Paths;
@@ -71,13 +72,14 @@ pub fn serve<R: BufRead, W: Output, D: Desk>(
     writer.begin_count();
     for requests in 0..REQUESTS_LIMIT {
         match answer_next(alloc, &mut paths, reader, writer, desk) {
-            Ok(Next::More) => {}
-            Ok(Next::Closed) => {
-                return Ok(Served {
-                    requests: requests + 1,
-                });
+            Ok(Some(outcome)) => {
+                if outcome.closes {
+                    return Ok(Served {
+                        requests: requests + 1,
+                    });
+                }
             }
-            Ok(Next::Over) => return Ok(Served { requests }),
+            Ok(None) => return Ok(Served { requests }),
             Err(e) => return Err(e),
         }
     }
@@ -86,18 +88,7 @@ pub fn serve<R: BufRead, W: Output, D: Desk>(
     })
 }
 
-/// What comes after a request.
-#[derive(Clone, Copy, Debug, PartialEq, Eq)]
-pub enum Next {
-    /// There was none.
-    Over,
-    /// It was answered, and the connection is closed.
-    Closed,
-    /// It was answered, and more may come.
-    More,
-}
-
-/// Answers the next request, if there is one. The count of reads begins anew at its front. The registry's paths are
+/// Answers the next request, and says what became of it; `None` where there is none. The count of reads begins anew at its front. The registry's paths are
 /// made at the first request, and are to be handed on to the next call.
 #[tactic(auto, using(reg_records::proofs::Ends::end_begun, reg_records::proofs::Ends::ends_then))]
 pub fn answer_next<R: BufRead, W: Output, D: Desk>(
@@ -106,10 +97,10 @@ pub fn answer_next<R: BufRead, W: Output, D: Desk>(
     reader: &mut Device<R>,
     writer: &mut Device<W>,
     desk: &mut D,
-) -> Result<Next, ServeError>
+) -> Result<Option<RequestOutcome>, ServeError>
     requires few { interruptions_of writer.old ≤ INTERRUPTION_LIMIT }
-    ensures step { IfOk result (λ next. IfSome (bytes_in R.remaining reader.old) (λ text. Steps D.asks D.commands desk.old text
-        (bytes_in W.contents writer.old) (bytes_in W.contents writer.new) (bytes_in R.remaining reader.new) desk.new next)) }
+    ensures step { IfOk result (λ outcome. IfSome (bytes_in R.remaining reader.old) (λ text. Steps D.asks D.commands desk.old text
+        (bytes_in W.contents writer.old) (bytes_in W.contents writer.new) (bytes_in R.remaining reader.new) desk.new outcome)) }
     ensures faults { OnOk result ((faults_of reader.new ≡ faults_of reader.old) × (faults_of writer.new ≡ faults_of writer.old)) }
     ensures refused { IfErr result (λ e. IsStepRefusal D.asks D.commands reader.old reader.new writer.old writer.new
         (bytes_in R.remaining reader.old) (bytes_in R.remaining reader.new)
@@ -125,21 +116,21 @@ pub fn answer_next<R: BufRead, W: Output, D: Desk>(
     reader.begin_count();
     match read_message(alloc, reader) {
         Ok(got) => match answer_got(alloc, paths, got, writer, desk) {
-            Ok(next) => Ok(next),
+            Ok(outcome) => Ok(outcome),
             Err(_) => Err(ServeError::WriteFault),
         },
         Err(_) => Err(ServeError::ReadFault),
     }
 }
 
-/// Answers a message that was read, if there is one. The only error is that the writer failed, or was interrupted too often in a row.
+/// Answers a message that was read, and says what became of it; `None` where there is none. The only error is that the writer failed, or was interrupted too often in a row.
 pub fn answer_got<W: Output, D: Desk>(
     alloc: Global,
     paths: &mut Option<Paths>,
     got: Got,
     writer: &mut Device<W>,
     desk: &mut D,
-) -> Result<Next, WriteFault>
+) -> Result<Option<RequestOutcome>, WriteFault>
     requires few { interruptions_of writer.old ≤ INTERRUPTION_LIMIT }
     ensures step { (text : List ℕ) (left : Option (List ℕ)) → GetsFrom text left got → IfOk result (Steps D.asks D.commands desk.old text
         (bytes_in W.contents writer.old) (bytes_in W.contents writer.new) left desk.new) }
@@ -153,16 +144,18 @@ pub fn answer_got<W: Output, D: Desk>(
     ensures cause { OnErr result (IsLostBy W.writes W.flushes writer.new) }
 {
     match attend(alloc, paths, got, desk) {
-        Attended::Over => Ok(Next::Over),
-        Attended::Done { done, wants_close } => match write_done(writer, &done, wants_close) {
-            Ok(()) => Ok(next_if(closes_after(&done, wants_close))),
+        Attended::Over => Ok(None),
+        Attended::Done {
+            endpoint,
+            done,
+            wants_close,
+        } => match write_done(writer, &done, wants_close) {
+            Ok(()) => Ok(Some(RequestOutcome {
+                endpoint,
+                status: status_of(&done),
+                closes: closes_after(&done, wants_close),
+            })),
             Err(fault) => Err(fault),
         },
     }
-}
-
-fn next_if(closes: bool) -> Next
-    ensures { result ≡ next_if closes }
-{
-    if closes { Next::Closed } else { Next::More }
 }

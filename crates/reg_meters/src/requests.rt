@@ -1,56 +1,55 @@
-// Requests that were answered.
-use crate::numbers::Counter;
-use crate::seconds::Seconds;
+// What requests ask, as metrics tell them apart.
+use reg_routes::Action;
 
-/// What a request is, by its head and by what the tests of requests say of it.
+/// What a request asks, by its path and its method.
 #[derive(Clone, Copy, Debug, PartialEq, Eq)]
 pub enum RequestClass {
-    /// A query that takes no turn.
+    /// A query.
     Lookup,
     /// A check of a schema.
     Check,
+    /// What may write something.
     Command,
-    /// It is none of these, or was refused before it was done.
+    /// Nothing of the registry: it has no such path, or the path not that method, or the request couldn't be read.
     Refused,
 }
 
-/// The first digit of a status.
-#[derive(Clone, Copy, Debug, PartialEq, Eq)]
-pub enum StatusClass {
-    Success,
-    ClientError,
-    ServerError,
-}
-
-/// The requests of one class.
-#[derive(Drop)]
-pub struct RequestMeter {
-    /// How many were answered by a status of each class.
-    pub success: Counter,
-    pub client_error: Counter,
-    pub server_error: Counter,
-    /// How long a worker took for them.
-    pub seconds: Seconds,
-}
-
-impl RequestMeter {
-    /// There was none.
-    pub const fn new() -> RequestMeter {
-        RequestMeter {
-            success: Counter::new(),
-            client_error: Counter::new(),
-            server_error: Counter::new(),
-            seconds: Seconds::new(),
+impl RequestClass {
+    /// That of requests which ask this.
+    pub fn of(action: Option<Action>) -> RequestClass {
+        match action {
+            Some(
+                Action::SchemaById
+                | Action::IdVersions
+                | Action::Subjects
+                | Action::Lookup
+                | Action::Versions
+                | Action::Version
+                | Action::VersionSchema
+                | Action::Level
+                | Action::Mode,
+            ) => RequestClass::Lookup,
+            Some(Action::Check) => RequestClass::Check,
+            Some(
+                Action::DeleteSubject
+                | Action::Register
+                | Action::DeleteVersion
+                | Action::SetLevel
+                | Action::ClearLevel
+                | Action::SetMode
+                | Action::ClearMode,
+            ) => RequestClass::Command,
+            None => RequestClass::Refused,
         }
     }
 
-    /// One was answered, for which a worker took so many microseconds.
-    pub(crate) fn count(&self, status: StatusClass, took: u64) {
-        match status {
-            StatusClass::Success => self.success.add(1),
-            StatusClass::ClientError => self.client_error.add(1),
-            StatusClass::ServerError => self.server_error.add(1),
+    /// Its name on the page.
+    pub fn word(self) -> &'static str {
+        match self {
+            RequestClass::Lookup => "lookup",
+            RequestClass::Check => "check",
+            RequestClass::Command => "command",
+            RequestClass::Refused => "refused",
         }
-        self.seconds.count(took);
     }
 }

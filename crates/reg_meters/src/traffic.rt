@@ -1,15 +1,21 @@
 // What came over the connections of all nodes.
+use crate::answers::AnswerMeters;
 use crate::connections::Connections;
 use crate::numbers::Counter;
-use crate::requests::{RequestClass, RequestMeter, StatusClass};
+use crate::requests::RequestClass;
+use crate::seconds::Seconds;
+use reg_routes::Endpoint;
 
 /// What came over the connections of all nodes.
 #[derive(Drop)]
 pub struct Traffic {
-    pub lookups: RequestMeter,
-    pub checks: RequestMeter,
-    pub commands: RequestMeter,
-    pub refused: RequestMeter,
+    /// How many requests were answered.
+    pub answers: AnswerMeters,
+    /// How long a worker took for them, by what they asked.
+    pub lookups: Seconds,
+    pub checks: Seconds,
+    pub commands: Seconds,
+    pub refused: Seconds,
     /// The bytes of all these requests, and those of their answers.
     pub request_bytes: Counter,
     pub response_bytes: Counter,
@@ -20,18 +26,19 @@ impl Traffic {
     /// Nothing came.
     pub const fn new() -> Traffic {
         Traffic {
-            lookups: RequestMeter::new(),
-            checks: RequestMeter::new(),
-            commands: RequestMeter::new(),
-            refused: RequestMeter::new(),
+            answers: AnswerMeters::new(),
+            lookups: Seconds::new(),
+            checks: Seconds::new(),
+            commands: Seconds::new(),
+            refused: Seconds::new(),
             request_bytes: Counter::new(),
             response_bytes: Counter::new(),
             connections: Connections::new(),
         }
     }
 
-    /// The requests of that class.
-    pub fn of_class(&self, class: RequestClass) -> &RequestMeter {
+    /// How long a worker took for the requests of that class.
+    pub fn of_class(&self, class: RequestClass) -> &Seconds {
         match class {
             RequestClass::Lookup => &self.lookups,
             RequestClass::Check => &self.checks,
@@ -40,16 +47,18 @@ impl Traffic {
         }
     }
 
-    /// A request of so many bytes was answered by so many, for which a worker took so many microseconds.
+    /// A request that went there was answered with that status: a request of so many bytes, by an answer of so many, for which a worker took
+    /// so many microseconds.
     pub fn count(
         &self,
-        class: RequestClass,
-        status: StatusClass,
+        endpoint: Endpoint,
+        status: u16,
         request: usize,
         response: usize,
         took: u64,
     ) {
-        self.of_class(class).count(status, took);
+        self.answers.at(endpoint).count(status);
+        self.of_class(RequestClass::of(endpoint.action)).count(took);
         self.request_bytes.add(request as u64);
         self.response_bytes.add(response as u64);
     }

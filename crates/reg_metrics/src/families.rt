@@ -55,35 +55,29 @@ pub(crate) fn by_label(
 {
     let mut samples = Vec::new(alloc);
     for (value, number) in numbers {
-        let pair = LabelPair {
-            name: LabelName::of(label),
-            value: Fixed::of(value),
-        };
+        let mut labels = Vec::new(alloc);
+        push_label(label, value, &mut labels)?;
         samples.push(Sample {
-            labels: one(alloc, pair)?,
+            labels: Listed::from(labels),
             number: Number::whole(*number),
         })?;
     }
     Ok(Listed::from(samples))
 }
 
-/// One label.
-pub(crate) fn one(alloc: Global, label: LabelPair) -> Result<Listed<LabelPair>, AllocError> {
-    let mut labels = Vec::new(alloc);
-    labels.push(label)?;
-    Ok(Listed::from(labels))
-}
-
-/// Two labels.
-pub(crate) fn two(
-    alloc: Global,
-    first: LabelPair,
-    second: LabelPair,
-) -> Result<Listed<LabelPair>, AllocError> {
-    let mut labels = Vec::new(alloc);
-    labels.push(first)?;
-    labels.push(second)?;
-    Ok(Listed::from(labels))
+/// Appends a label with its value.
+pub(crate) fn push_label(
+    name: &'static str,
+    value: &'static str,
+    out: &mut Vec<LabelPair>,
+) -> Result<(), AllocError>
+    requires { IsTrue (is_label_name name.now) }
+{
+    out.push(LabelPair {
+        name: LabelName::of(name),
+        value: Fixed::of(value),
+    })?;
+    Ok(())
 }
 
 /// How often something took how long.

@@ -15,12 +15,14 @@ pub fn batch_families(
         ("kept", meters.kept.count()),
         ("declined", meters.declined.count()),
         ("lost", meters.lost.count()),
+        ("unknown", meters.unknown.count()),
         ("overtaken", meters.overtaken.count()),
     ];
     out.push(Family {
         name: Name::of("registry_log_batches_total"),
         help: Fixed::of(
-            "Batches that the log was asked to keep, by what became of them. Lost are those of which that isn't known.",
+            "Batches that the log was asked to keep, by what became of them. Lost: it can't be said whether they are kept, and nothing is taken \
+             any more. Unknown: it can't be known now whether they stand in the log; those that do are told later, like others' batches.",
         ),
         samples: Samples::Counter(by_label(alloc, "outcome", &outcomes)?),
     })?;

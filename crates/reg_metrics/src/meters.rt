@@ -14,8 +14,10 @@ pub struct BatchMeters {
     pub kept: Counter,
     /// Nothing of them was kept.
     pub declined: Counter,
-    /// It isn't known whether they were kept.
+    /// It can't be said whether they are kept, and nothing is taken any more.
     pub lost: Counter,
+    /// Whether they stand in the log can't be known now; those that do are told later, like batches that somebody else wrote.
+    pub unknown: Counter,
     /// Somebody else's came first.
     pub overtaken: Counter,
     /// How long it took to keep one.
@@ -29,6 +31,7 @@ impl BatchMeters {
             kept: Counter::new(),
             declined: Counter::new(),
             lost: Counter::new(),
+            unknown: Counter::new(),
             overtaken: Counter::new(),
             seconds: Seconds::new(),
         }
@@ -169,7 +172,7 @@ impl AdapterMeters {
                 return;
             }
             AdapterReply::Lost => {
-                batches.lost.add(1);
+                batches.unknown.add(1);
                 return;
             }
         }

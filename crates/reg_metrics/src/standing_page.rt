@@ -1,9 +1,9 @@
 // What the page says of the process.
-use crate::families::{by_label, counter, gauge, two};
+use crate::families::{by_label, counter, gauge, push_label};
 use crate::process::ProcessNumbers;
 use crate::stage::Stage;
 use base_text::Listed;
-use exposition::{Family, Fixed, LabelName, LabelPair, Name, Number, Sample, Samples};
+use exposition::{Family, Fixed, Name, Number, Sample, Samples};
 use std::alloc::{AllocError, Global};
 
 /// How far a process of that version and command is.
@@ -45,17 +45,12 @@ pub fn stage_families(
 }
 
 fn info(alloc: Global, version: &'static str, command: &'static str) -> Result<Family, AllocError> {
-    let version = LabelPair {
-        name: LabelName::of("version"),
-        value: Fixed::of(version),
-    };
-    let command = LabelPair {
-        name: LabelName::of("command"),
-        value: Fixed::of(command),
-    };
+    let mut labels = Vec::new(alloc);
+    push_label("version", version, &mut labels)?;
+    push_label("command", command, &mut labels)?;
     let mut samples = Vec::new(alloc);
     samples.push(Sample {
-        labels: two(alloc, version, command)?,
+        labels: Listed::from(labels),
         number: Number::whole(1),
     })?;
     Ok(Family {

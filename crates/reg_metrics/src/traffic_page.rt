@@ -1,9 +1,40 @@
 // What the page says of connections and requests.
-use crate::families::{by_label, counter, gauge, one, series, two};
+use crate::families::{by_label, counter, gauge, push_label, series};
 use base_text::Listed;
-use exposition::{Family, Fixed, LabelName, LabelPair, Name, Number, Sample, Samples, Series};
-use reg_meters::{Connections, RequestMeter, Traffic};
+use exposition::{Family, Fixed, LabelPair, Name, Number, Sample, Samples};
+use reg_meters::{AnswerMeters, Connections, RequestClass, STATUSES, Traffic};
+use reg_routes::{Endpoint, Route};
 use std::alloc::{AllocError, Global};
+
+/// The registry's paths, in the order of the page.
+static ROUTES: [Route; 13] = [
+    Route::SchemaById,
+    Route::IdVersions,
+    Route::Subjects,
+    Route::Subject,
+    Route::Versions,
+    Route::Version,
+    Route::VersionSchema,
+    Route::CheckAll,
+    Route::CheckOne,
+    Route::Level,
+    Route::SubjectLevel,
+    Route::Mode,
+    Route::SubjectMode,
+];
+
+/// The methods that paths offer, in the order of the page.
+static METHODS: [&str; 4] = ["GET", "POST", "PUT", "DELETE"];
+
+/// What the page says for a path or a method that isn't the registry's.
+const OTHER: &str = "other";
+
+static CLASSES: [RequestClass; 4] = [
+    RequestClass::Lookup,
+    RequestClass::Check,
+    RequestClass::Command,
+    RequestClass::Refused,
+];
 
 /// What came over the connections of all nodes.
 pub fn traffic_families(
@@ -28,64 +59,95 @@ pub fn traffic_families(
     connection_families(alloc, &traffic.connections, out)
 }
 
+/// The requests by what they asked, their method, their path and the status of the answer; of those that there were none of nothing is said.
 fn answered(alloc: Global, traffic: &Traffic) -> Result<Family, AllocError> {
     let mut samples = Vec::new(alloc);
-    push_class(alloc, "lookup", &traffic.lookups, &mut samples)?;
-    push_class(alloc, "check", &traffic.checks, &mut samples)?;
-    push_class(alloc, "command", &traffic.commands, &mut samples)?;
-    push_class(alloc, "refused", &traffic.refused, &mut samples)?;
+    for route in &ROUTES {
+        push_route(alloc, &traffic.answers, *route, &mut samples)?;
+    }
+    push_endpoint(alloc, &traffic.answers, Endpoint::nowhere(), &mut samples)?;
     Ok(Family {
         name: Name::of("registry_http_requests_total"),
         help: Fixed::of(
-            "Requests that were answered. Refused are those that are neither lookups, checks nor commands.",
+            "Requests that were answered. Refused are those whose path or method isn't the registry's, or that couldn't be read.",
         ),
         samples: Samples::Counter(Listed::from(samples)),
     })
 }
 
-/// The requests of a class, by the classes of their statuses.
-fn push_class(
+/// The requests of a path: those of each method that it offers, and then the others.
+fn push_route(
     alloc: Global,
-    class: &'static str,
-    meter: &RequestMeter,
+    answers: &AnswerMeters,
+    route: Route,
     out: &mut Vec<Sample>,
 ) -> Result<(), AllocError> {
-    push_status(alloc, class, "2xx", meter.success.count(), out)?;
-    push_status(alloc, class, "4xx", meter.client_error.count(), out)?;
-    push_status(alloc, class, "5xx", meter.server_error.count(), out)
+    let others = Endpoint {
+        route: Some(route),
+        action: None,
+    };
+    for method in &METHODS {
+        let action = route.action(method);
+        if action.is_some() {
+            let endpoint = Endpoint { action, ..others };
+            push_endpoint(alloc, answers, endpoint, out)?;
+        }
+    }
+    push_endpoint(alloc, answers, others, out)
 }
 
-fn push_status(
+/// The requests that went there.
+fn push_endpoint(
     alloc: Global,
-    class: &'static str,
-    status: &'static str,
-    count: u64,
+    answers: &AnswerMeters,
+    endpoint: Endpoint,
     out: &mut Vec<Sample>,
 ) -> Result<(), AllocError> {
-    let status = LabelPair {
-        name: LabelName::of("status"),
-        value: Fixed::of(status),
-    };
-    out.push(Sample {
-        labels: two(alloc, class_label(class), status)?,
-        number: Number::whole(count),
-    })?;
+    let counts = answers.at(endpoint).counts();
+    for ((_number, status), count) in STATUSES.iter().zip(counts) {
+        let count = count.count();
+        if count > 0 {
+            out.push(Sample {
+                labels: endpoint_labels(alloc, endpoint, status)?,
+                number: Number::whole(count),
+            })?;
+        }
+    }
     Ok(())
 }
 
-fn class_label(class: &'static str) -> LabelPair {
-    LabelPair {
-        name: LabelName::of("class"),
-        value: Fixed::of(class),
-    }
+fn endpoint_labels(
+    alloc: Global,
+    endpoint: Endpoint,
+    status: &'static str,
+) -> Result<Listed<LabelPair>, AllocError> {
+    let method = match endpoint.action {
+        Some(action) => action.method(),
+        None => OTHER,
+    };
+    let route = match endpoint.route {
+        Some(route) => route.pattern(),
+        None => OTHER,
+    };
+    let mut labels = Vec::new(alloc);
+    push_label(
+        "class",
+        RequestClass::of(endpoint.action).word(),
+        &mut labels,
+    )?;
+    push_label("method", method, &mut labels)?;
+    push_label("route", route, &mut labels)?;
+    push_label("status", status, &mut labels)?;
+    Ok(Listed::from(labels))
 }
 
 fn durations(alloc: Global, traffic: &Traffic) -> Result<Family, AllocError> {
     let mut all = Vec::new(alloc);
-    all.push(class_series(alloc, "lookup", &traffic.lookups)?)?;
-    all.push(class_series(alloc, "check", &traffic.checks)?)?;
-    all.push(class_series(alloc, "command", &traffic.commands)?)?;
-    all.push(class_series(alloc, "refused", &traffic.refused)?)?;
+    for class in &CLASSES {
+        let mut labels = Vec::new(alloc);
+        push_label("class", class.word(), &mut labels)?;
+        all.push(series(alloc, Listed::from(labels), traffic.of_class(*class))?)?;
+    }
     Ok(Family {
         name: Name::of("registry_http_request_duration_seconds"),
         help: Fixed::of(
@@ -93,15 +155,6 @@ fn durations(alloc: Global, traffic: &Traffic) -> Result<Family, AllocError> {
         ),
         samples: Samples::Histogram(Listed::from(all)),
     })
-}
-
-fn class_series(
-    alloc: Global,
-    class: &'static str,
-    meter: &RequestMeter,
-) -> Result<Series, AllocError> {
-    let labels = one(alloc, class_label(class))?;
-    series(alloc, labels, &meter.seconds)
 }
 
 fn connection_families(

@@ -1,3 +1,4 @@
+mod Endpoints
 mod Examples
 mod Texts
 pub use Rattle.reg_messages.proofs as reg_messages_proofs

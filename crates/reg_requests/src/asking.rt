@@ -1,6 +1,10 @@
 // The tests of a request, in their order.
-ghost use Rattle.std.specs.Prelude.{◌≡◌, IfOk, option_map};
+ghost use Rattle.std.specs.Prelude.{◌≡◌, IfOk, option_map, if◌then◌else◌};
 ghost use Rattle.serde_json.specs.View.{view};
+ghost use Rattle.reg_leader.specs.reg_refusals.declared.refusal.Refusal.TheVariants as refusals;
+ghost use Rattle.reg_routes.specs.Endpoint.{endpoint_of};
+ghost use Rattle.reg_routes.specs.Routes.{action_of};
+ghost use Rattle.reg_routes.specs.Target.{is_path};
 ghost use Rattle.reg_requests.specs.Asked.{asked_of, asked_of_target, asked_of_route, asked_of_action, asked_of_parts, asked_of_texts, asked_of_body, asked_of_object, closing, named_version, names_version, object_in, open_refusal, takes_body};
 
 use crate::action::{Given, action_asks, version_of};
@@ -12,7 +16,7 @@ use reg_leader::base_text::Text;
 use reg_leader::reg_fold::VersionRef;
 use reg_leader::reg_refusals::Refusal;
 use reg_messages::{Request, told_length};
-use reg_routes::{Action, Paths, Route, is_path, path_of, query_of, text_part};
+use reg_routes::{Action, Endpoint, Paths, Route, is_path, path_of, query_of, text_part};
 use serde_json::Value;
 use std::alloc::{AllocError, Global};
 
@@ -22,27 +26,38 @@ pub fn route_request(alloc: Global, paths: &Paths, request: &Request) -> Result<
     ensures { IfOk result (λ asked. asked ≡ asked_of request.now) }
 {
     match told_length(request.fields.as_slice()) {
-        Ok(told) => route_told(alloc, paths, request, told),
+        Ok(told) => {
+            let endpoint = paths.endpoint(request.method.as_str(), request.target.as_str());
+            route_told(alloc, endpoint, request, told)
+        }
         Err(refusal) => Ok(closing(refusal)),
     }
 }
 
-/// The same, where the length that the fields state was read before, and isn't refused.
+/// The same, where it was looked up before where the request goes, and the length that the fields state was read and isn't refused.
 pub fn route_told(
     alloc: Global,
-    paths: &Paths,
+    endpoint: Endpoint,
     request: &Request,
     told: Option<u64>,
 ) -> Result<Asked, AllocError>
+    requires { endpoint ≡ endpoint_of request.now.method request.now.target }
     ensures { IfOk result (λ asked. asked ≡ asked_of_target request.now told) }
 {
-    let target = request.target.as_str();
-    if !is_path(target) {
-        return Ok(closing(Refusal::BadRequest));
+    match endpoint.route {
+        Some(route) => asked_of_route(alloc, request, told, route, endpoint.action),
+        None => Ok(no_path(request.target.as_str())),
     }
-    match paths.route_of(path_of(target)) {
-        Some(route) => asked_of_route(alloc, request, told, route),
-        None => Ok(closing(Refusal::NotFound)),
+}
+
+/// The refusal of a target that names no path of the registry.
+fn no_path(target: &str) -> Asked
+    ensures { result ≡ (if is_path target.now then closing refusals.NotFound else closing refusals.BadRequest) }
+{
+    if is_path(target) {
+        closing(Refusal::NotFound)
+    } else {
+        closing(Refusal::BadRequest)
     }
 }
 
@@ -72,10 +87,12 @@ fn asked_of_route(
     request: &Request,
     told: Option<u64>,
     route: Route,
+    action: Option<Action>,
 ) -> Result<Asked, AllocError>
+    requires { action ≡ action_of route request.now.method }
     ensures { IfOk result (λ asked. asked ≡ asked_of_route request.now told route) }
 {
-    match route.action(request.method.as_str()) {
+    match action {
         Some(action) => asked_of_action(alloc, request, told, route, action),
         None => Ok(closing(Refusal::MethodNotAllowed(route.allow()))),
     }

@@ -16,5 +16,5 @@ pub use reg_lookup;
 pub use reg_messages;
 pub use reg_messages::{HeaderField, Request};
 pub use reg_routes;
-pub use reg_routes::Paths;
+pub use reg_routes::{Endpoint, Paths};
 pub use routed::Routed;

@@ -1,5 +1,5 @@
 -- The text of a response (RFC 9112).
-use Rattle.std.specs.Prelude.{ℕ, List, [], ◌++◌, Bool, length, codes, decimal, Option, Some, None, Err, unwrap_or, if◌then◌else◌}
+use Rattle.std.specs.Prelude.{◌≡◌, ℕ, List, [], ◌++◌, Bool, length, codes, decimal, Option, Some, None, Err, unwrap_or, if◌then◌else◌}
 use Rattle.http.specs.StatusCode.{reason_phrase}
 use Rattle.reg_lookup.specs.Bodies.{answer_with}
 use Rattle.reg_lookup.specs.declared.answered.Answer.{Answer}
@@ -50,3 +50,7 @@ refusal_text closes refusal =
 -- the response where memory was refused
 abbrev pub memory_text : Bool → List ℕ
 memory_text closes = refusal_text closes no_memory
+
+-- a response begins with a line that states this status
+abbrev pub StatesStatus : List ℕ → ℕ → Type 0
+StatesStatus out status = (rest : List ℕ) × (out ≡ codes "HTTP/1.1 " ++ (decimal status ++ (codes " " ++ rest)))

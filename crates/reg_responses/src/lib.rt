@@ -12,6 +12,6 @@ mod writing;
 
 pub use laws::statuses_have_phrases;
 pub use limits::{INTERRUPTION_LIMIT, response_limits_are_as_written};
-pub use reply::reply_answer;
+pub use reply::{reply_answer, reply_status};
 pub use respond::{write_answer, write_no_memory, write_refusal, write_reply};
 pub use writing::{WriteFault, write_whole};

@@ -18,3 +18,11 @@ pub fn reply_answer(alloc: Global, reply: &Reply) -> Result<Answer, AllocError>
         body: joined(alloc, &body)?,
     })
 }
+
+/// The status of that answer. Takes no memory.
+pub fn reply_status(reply: &Reply) -> u16
+    ensures { result ≡ (reply_answer reply.now).status }
+{
+    let (status, _body) = reply_pieces(reply);
+    status
+}

@@ -1,4 +1,5 @@
 pub mod Adding
+pub mod Endpoint
 pub mod Query
 pub mod Router
 pub mod Routes

@@ -25,6 +25,42 @@ paths =
     ∷ (codes "/mode/{subject}", routes.SubjectMode)
     ∷ []
 
+-- the path of a route
+abbrev pub pattern_of : Route → List ℕ
+pattern_of routes.SchemaById = codes "/schemas/ids/{id}"
+pattern_of routes.IdVersions = codes "/schemas/ids/{id}/versions"
+pattern_of routes.Subjects = codes "/subjects"
+pattern_of routes.Subject = codes "/subjects/{subject}"
+pattern_of routes.Versions = codes "/subjects/{subject}/versions"
+pattern_of routes.Version = codes "/subjects/{subject}/versions/{version}"
+pattern_of routes.VersionSchema = codes "/subjects/{subject}/versions/{version}/schema"
+pattern_of routes.CheckAll = codes "/compatibility/subjects/{subject}/versions"
+pattern_of routes.CheckOne = codes "/compatibility/subjects/{subject}/versions/{version}"
+pattern_of routes.Level = codes "/config"
+pattern_of routes.SubjectLevel = codes "/config/{subject}"
+pattern_of routes.Mode = codes "/mode"
+pattern_of routes.SubjectMode = codes "/mode/{subject}"
+
+-- the method that asks an action
+abbrev pub method_of : Action → List ℕ
+method_of actions.SchemaById = codes "GET"
+method_of actions.IdVersions = codes "GET"
+method_of actions.Subjects = codes "GET"
+method_of actions.Lookup = codes "POST"
+method_of actions.DeleteSubject = codes "DELETE"
+method_of actions.Versions = codes "GET"
+method_of actions.Register = codes "POST"
+method_of actions.Version = codes "GET"
+method_of actions.DeleteVersion = codes "DELETE"
+method_of actions.VersionSchema = codes "GET"
+method_of actions.Check = codes "POST"
+method_of actions.Level = codes "GET"
+method_of actions.SetLevel = codes "PUT"
+method_of actions.ClearLevel = codes "DELETE"
+method_of actions.Mode = codes "GET"
+method_of actions.SetMode = codes "PUT"
+method_of actions.ClearMode = codes "DELETE"
+
 -- the methods that a path offers, and what each asks of it
 abbrev pub offers_of : Route → List (List ℕ × Action)
 offers_of routes.SchemaById = (codes "GET", actions.SchemaById) ∷ []

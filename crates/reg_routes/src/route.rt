@@ -2,7 +2,7 @@
 ghost use Rattle.std.specs.Prelude.{◌≡◌, codes};
 ghost use Rattle.std.specs.List.{join_by};
 ghost use Rattle.reg_refusals.specs.Allow.{allow_text};
-ghost use Rattle.reg_routes.specs.Routes.{action_of, allow_of, methods_of, number_place, subject_place};
+ghost use Rattle.reg_routes.specs.Routes.{action_of, allow_of, method_of, methods_of, number_place, pattern_of, subject_place};
 
 use reg_refusals::Allow;
 
@@ -60,7 +60,52 @@ pub enum Action {
     ClearMode,
 }
 
+impl Action {
+    /// The method that asks it.
+    pub fn method(self) -> &'static str
+        ensures { result.now ≡ method_of self }
+    {
+        match self {
+            Action::SchemaById
+            | Action::IdVersions
+            | Action::Subjects
+            | Action::Versions
+            | Action::Version
+            | Action::VersionSchema
+            | Action::Level
+            | Action::Mode => "GET",
+            Action::Lookup | Action::Register | Action::Check => "POST",
+            Action::SetLevel | Action::SetMode => "PUT",
+            Action::DeleteSubject
+            | Action::DeleteVersion
+            | Action::ClearLevel
+            | Action::ClearMode => "DELETE",
+        }
+    }
+}
+
 impl Route {
+    /// The path, whose parameters stand in braces.
+    pub fn pattern(self) -> &'static str
+        ensures { result.now ≡ pattern_of self }
+    {
+        match self {
+            Route::SchemaById => "/schemas/ids/{id}",
+            Route::IdVersions => "/schemas/ids/{id}/versions",
+            Route::Subjects => "/subjects",
+            Route::Subject => "/subjects/{subject}",
+            Route::Versions => "/subjects/{subject}/versions",
+            Route::Version => "/subjects/{subject}/versions/{version}",
+            Route::VersionSchema => "/subjects/{subject}/versions/{version}/schema",
+            Route::CheckAll => "/compatibility/subjects/{subject}/versions",
+            Route::CheckOne => "/compatibility/subjects/{subject}/versions/{version}",
+            Route::Level => "/config",
+            Route::SubjectLevel => "/config/{subject}",
+            Route::Mode => "/mode",
+            Route::SubjectMode => "/mode/{subject}",
+        }
+    }
+
     /// What the method asks of the path; `None` where the path doesn't offer it. Methods are
     /// compared with case (RFC 9110, section 9.1).
     pub fn action(self, method: &str) -> Option<Action>

@@ -1,8 +1,8 @@
 -- Who waits for a turn, and who goes on once one has ended.
-use Rattle.std.specs.Prelude.{◌≡◌, ◌⊎◌, List, [], ◌∷◌, true, false, Option, Some, None}
+use Rattle.std.specs.Prelude.{◌≡◌, ◌⊎◌, List, [], ◌∷◌, Option, Some}
 use Rattle.reg_connection.specs.declared.turn_kinds.TurnKind.{TurnKind}
 use Rattle.reg_connection.specs.declared.turn_kinds.TurnKind.TheVariants as kinds
-use Rattle.reg_serve.specs.Turns.{Counts, is_free, with_one_less}
+use Rattle.reg_serve.specs.Turns.{with_one_less}
 use Rattle.reg_serve.specs.Waiting.{TakesUp}
 use Rattle.reg_serve.specs.declared.queues.Queues.{Queues}
 

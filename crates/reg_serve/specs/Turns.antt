@@ -1,5 +1,5 @@
 -- The turns of a node's workers at commands and at checks: how many there are, and which are free.
-use Rattle.std.specs.Prelude.{ℕ, ◌+◌, ◌-◌, ◌<◌, ◌≤◌, Bool, ◌&&◌, max, nat_lt}
+use Rattle.std.specs.Prelude.{ℕ, ◌+◌, ◌-◌, ◌≤◌, Bool, ◌&&◌, max, nat_lt}
 use Rattle.reg_connection.specs.declared.turn_kinds.TurnKind.{TurnKind}
 use Rattle.reg_connection.specs.declared.turn_kinds.TurnKind.TheVariants as kinds
 

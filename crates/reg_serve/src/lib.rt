@@ -2,7 +2,6 @@
 //! are whole; where something has to be brought to the nodes, a thread follows it for them.
 #![tactic(auto)]
 
-mod answered;
 mod latch;
 mod listening;
 mod nodes;

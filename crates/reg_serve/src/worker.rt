@@ -3,19 +3,18 @@ ghost use Rattle.std.specs.Prelude.{◌≡◌, ◌≤◌, [], Some, length, take
 ghost use Rattle.reg_messages.specs.Head.{front_of};
 ghost use Rattle.reg_messages.specs.Reading.{IsShort};
 ghost use Rattle.reg_messages.specs.Extent.{IsWhole};
-ghost use Rattle.reg_conversation.specs.Conversation.{RepliesAll};
+ghost use Rattle.reg_conversation.specs.Conversation.{EndsAs, RepliesAll};
 ghost use Rattle.reg_connection.specs.Answering.{AnswersKnowing, HasLearnt};
 ghost use Rattle.reg_connection.specs.TurnKinds.{kind_in};
 ghost use Rattle.reg_serve.specs.Ready.{IsReady};
 
-use crate::answered::count_answer;
 use crate::shared_state::{Returned, SharedState};
 use crate::turns::{Leave, take_up};
 use reg_connection::{
     Connection, Stream, Turn, TurnKind, answer_last, answer_one, send_some, turn_kind,
 };
 use reg_conversation::SharedDesk;
-use reg_http::{Paths, ServeError};
+use reg_http::{Paths, RequestOutcome, ServeError};
 use reg_meters::{Traffic, microseconds};
 use reg_records::Device;
 use std::alloc::{AllocError, Global};
@@ -211,53 +210,48 @@ fn answer_in_turn<R: Wait + Clock, D: SharedDesk>(
     };
     let before = state.out.len();
     let begun = microseconds(rt);
-    let goes_on = answer_front(alloc, state, desk, connection, len, &leave);
-    note_answer(
-        rt,
-        traffic,
-        kind_of(&leave),
-        len,
-        answer_behind(state, before),
-        begun,
-    );
+    let answered = answer_front(alloc, state, desk, connection, len, &leave);
+    if let Ok(outcome) = &answered {
+        count_answer(
+            rt,
+            traffic,
+            outcome,
+            len,
+            answered_since(state, before),
+            begun,
+        );
+    }
     end_turn(rt, shared, leave);
-    match goes_on {
-        Ok(true) => {
-            if state.out.len() >= GATHERED {
+    match answered {
+        Ok(outcome) => {
+            if outcome.closes {
+                Some(Answered::Closes)
+            } else if state.out.len() >= GATHERED {
                 Some(Answered::Full)
             } else {
                 None
             }
         }
-        Ok(false) => Some(Answered::Closes),
         Err(_) => Some(Answered::Failed),
     }
 }
 
-/// The kind of a turn.
-fn kind_of(leave: &Option<Leave>) -> Option<TurnKind> {
-    match leave {
-        Some(leave) => Some(leave.kind()),
-        None => None,
-    }
+/// How many bytes of answers stand behind so many.
+fn answered_since(state: &WorkerState, before: usize) -> usize {
+    state.out.len().saturating_sub(before)
 }
 
-/// What was answered behind so many bytes of answers.
-fn answer_behind(state: &WorkerState, before: usize) -> &[u8] {
-    state.out.get(before..).unwrap_or(&[])
-}
-
-/// Counts a request of so many bytes that took a turn of that kind or none, and its answer, which was begun at that moment.
-fn note_answer<R: Clock>(
+/// Counts a request of so many bytes, of which that became, with so many bytes of answer, which was begun at that moment.
+fn count_answer<R: Clock>(
     rt: &R,
     traffic: &Traffic,
-    kind: Option<TurnKind>,
+    outcome: &RequestOutcome,
     request: usize,
-    answer: &[u8],
+    response: usize,
     begun: u64,
 ) {
     let took = microseconds(rt).saturating_sub(begun);
-    count_answer(traffic, kind, request, answer, took);
+    traffic.count(outcome.endpoint, outcome.status, request, response, took);
 }
 
 /// Answers the request at the front, behind the answers that are gathered. Where that fails these stay as they are. A command is done with
@@ -269,7 +263,7 @@ fn answer_front<D: SharedDesk>(
     connection: &mut Connection<TcpStream, D::Standing>,
     len: usize,
     leave: &Option<Leave>,
-) -> Result<bool, ServeError>
+) -> Result<RequestOutcome, ServeError>
     requires fits { len ≤ length connection.old.conversation }
     requires whole { IsWhole (take len connection.old.conversation) }
     requires ready { IsReady GATHERED connection.old.conversation state.old.out.items (vec_capacity state.old.out) leave.now }
@@ -280,7 +274,7 @@ fn answer_front<D: SharedDesk>(
 {
     let whole = state.out.len();
     let mut out = Device::new(mem::replace(&mut state.out, Vec::new(alloc)));
-    let goes_on = answer_one(
+    let answered = answer_one(
         alloc,
         &mut state.paths,
         &mut connection.conversation,
@@ -290,10 +284,10 @@ fn answer_front<D: SharedDesk>(
         desk,
     );
     state.out = out.into_inner();
-    if goes_on.is_err() {
+    if answered.is_err() {
         state.out.truncate(whole);
     }
-    goes_on
+    answered
 }
 
 /// No request is whole: where the client has ended its side, what is held is answered, and the connection
@@ -312,14 +306,22 @@ fn answer_end<R: Clock, D: SharedDesk>(
     let before = state.out.len();
     let begun = microseconds(rt);
     let held = connection.conversation.held_len();
-    let answered = if connection.conversation.front_len().is_none() {
-        answer_rest(alloc, state, desk, connection)
-    } else {
-        Ok(())
-    };
-    note_answer(rt, traffic, None, held, answer_behind(state, before), begun);
-    match answered {
-        Ok(()) => Answered::Closes,
+    if connection.conversation.front_len().is_some() {
+        return Answered::Closes;
+    }
+    match answer_rest(alloc, state, desk, connection) {
+        Ok(Some(outcome)) => {
+            count_answer(
+                rt,
+                traffic,
+                &outcome,
+                held,
+                answered_since(state, before),
+                begun,
+            );
+            Answered::Closes
+        }
+        Ok(None) => Answered::Closes,
         Err(_) => Answered::Failed,
     }
 }
@@ -330,10 +332,11 @@ fn answer_rest<D: SharedDesk>(
     state: &mut WorkerState,
     desk: &mut D,
     connection: &mut Connection<TcpStream, D::Standing>,
-) -> Result<(), ServeError>
+) -> Result<Option<RequestOutcome>, ServeError>
     requires short { IsShort (front_of connection.old.conversation) }
     ensures answered { OnOk result ((told : D) × HasLearnt D.learns desk.old connection.old.standing told
         × RepliesAll D.asks D.commands told connection.old.conversation (Some state.old.out.items) (Some state.new.out.items) desk.new) }
+    ensures outcome { IfOk result (EndsAs connection.old.conversation (Some state.old.out.items) (Some state.new.out.items)) }
     ensures failed { OnErr result (state.new.out.items ≡ state.old.out.items) }
 {
     let whole = state.out.len();

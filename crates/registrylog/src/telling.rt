@@ -194,6 +194,7 @@ fn count<R: Files<File = File> + Clock + Drop>(
                 board.marks.is_full.set(true);
             }
         }
-        Kept::Lost | Kept::Unknown => meters.lost.add(1),
+        Kept::Lost => meters.lost.add(1),
+        Kept::Unknown => meters.unknown.add(1),
     }
 }

@@ -38,19 +38,22 @@ const CONNECTIONS: u64 = 28;
 
 /// Lines of the page then.
 static LINES: &str = r#"
-registry_http_requests_total{class="lookup",status="2xx"} 3
-registry_http_requests_total{class="lookup",status="4xx"} 4
-registry_http_requests_total{class="lookup",status="5xx"} 0
-registry_http_requests_total{class="check",status="2xx"} 5
-registry_http_requests_total{class="check",status="4xx"} 6
-registry_http_requests_total{class="command",status="2xx"} 1
-registry_http_requests_total{class="command",status="4xx"} 2
-registry_http_requests_total{class="refused",status="2xx"} 0
-registry_http_requests_total{class="refused",status="4xx"} 7
-registry_http_request_duration_seconds_count{class="lookup"} 7
+registry_http_requests_total{class="lookup",method="GET",route="/schemas/ids/{id}",status="200"} 3
+registry_http_requests_total{class="refused",method="other",route="/subjects",status="405"} 1
+registry_http_requests_total{class="lookup",method="POST",route="/subjects/{subject}",status="411"} 1
+registry_http_requests_total{class="lookup",method="POST",route="/subjects/{subject}",status="415"} 1
+registry_http_requests_total{class="command",method="DELETE",route="/subjects/{subject}",status="404"} 2
+registry_http_requests_total{class="lookup",method="GET",route="/subjects/{subject}/versions",status="404"} 4
+registry_http_requests_total{class="command",method="POST",route="/subjects/{subject}/versions",status="200"} 1
+registry_http_requests_total{class="check",method="POST",route="/compatibility/subjects/{subject}/versions",status="200"} 5
+registry_http_requests_total{class="check",method="POST",route="/compatibility/subjects/{subject}/versions/{version}",status="404"} 6
+registry_http_requests_total{class="refused",method="other",route="other",status="400"} 2
+registry_http_requests_total{class="refused",method="other",route="other",status="404"} 1
+registry_http_requests_total{class="refused",method="other",route="other",status="413"} 1
+registry_http_request_duration_seconds_count{class="lookup"} 9
 registry_http_request_duration_seconds_count{class="check"} 11
 registry_http_request_duration_seconds_count{class="command"} 3
-registry_http_request_duration_seconds_count{class="refused"} 7
+registry_http_request_duration_seconds_count{class="refused"} 5
 registry_http_connections 0
 registry_http_connections_accepted_total 28
 registry_http_connections_closed_total{reason="done"} 28

@@ -2,8 +2,9 @@
 use crate::serve::fakes::{EchoDesk, Ledger};
 use reg_connection::{answer_last, answer_one};
 use reg_conversation::{Conversation, answer_rest, answer_whole, take_piece};
-use reg_http::Paths;
+use reg_http::{Endpoint, Paths, RequestOutcome};
 use reg_records::Device;
+use reg_routes::{Action, Route};
 use std::alloc::Global;
 use std::mem;
 use std::time::Clock;
@@ -26,8 +27,14 @@ fn answer_front<R: Clock>(
     };
     let mut writer = Device::new(Vec::new(alloc));
     match answer_one(alloc, paths, conversation, len, standing, &mut writer, desk) {
-        Ok(true) => Some(writer.into_inner()),
-        _ => None,
+        Ok(outcome) => {
+            if outcome.closes {
+                None
+            } else {
+                Some(writer.into_inner())
+            }
+        }
+        Err(_) => None,
     }
 }
 
@@ -103,6 +110,96 @@ fn what_is_cut_off_is_answered_once(rt: HostRuntime) {
                 && out.as_slice().starts_with(begin)
                 && (out.is_empty() == begin.is_empty())
         );
+    }
+}
+
+/// A request, where it goes, the status of its answer, and whether that closes the connection.
+type OutcomeRow = (&'static [u8], Option<Route>, Option<Action>, u16, bool);
+
+/// Requests by their heads alone, and one that can't be read.
+const OUTCOMES: [OutcomeRow; 8] = [
+    (
+        b"GET /subjects HTTP/1.1\r\nHost: a\r\n\r\n",
+        Some(Route::Subjects),
+        Some(Action::Subjects),
+        200,
+        false,
+    ),
+    (
+        b"GET /subjects HTTP/1.0\r\n\r\n",
+        Some(Route::Subjects),
+        Some(Action::Subjects),
+        200,
+        true,
+    ),
+    (
+        b"DELETE /subjects/s HTTP/1.1\r\n\r\n",
+        Some(Route::Subject),
+        Some(Action::DeleteSubject),
+        200,
+        false,
+    ),
+    (
+        b"PUT /subjects HTTP/1.1\r\n\r\n",
+        Some(Route::Subjects),
+        None,
+        405,
+        true,
+    ),
+    (b"GET /nowhere HTTP/1.1\r\n\r\n", None, None, 404, true),
+    (b"GET nowhere HTTP/1.1\r\n\r\n", None, None, 400, true),
+    (
+        b"POST /subjects/s HTTP/1.1\r\n\r\n",
+        Some(Route::Subject),
+        Some(Action::Lookup),
+        411,
+        true,
+    ),
+    (
+        b"GET /subjects HTTP/1.1\r\nContent-Length: x\r\n\r\n",
+        None,
+        None,
+        400,
+        true,
+    ),
+];
+
+/// What became of the one request of a text.
+fn outcome_of<R: Clock>(rt: &R, alloc: Global, text: &[u8]) -> Option<RequestOutcome> {
+    let ledger = Ledger::new();
+    let mut desk = EchoDesk::new(rt, &ledger);
+    let mut conversation = Conversation::new(alloc);
+    let (mut paths, mut standing) = (None, None);
+    if conversation.feed(text).is_err() {
+        return None;
+    }
+    let Some(len) = conversation.front_len() else {
+        return None;
+    };
+    let mut writer = Device::new(Vec::new(alloc));
+    match answer_one(
+        alloc,
+        &mut paths,
+        &mut conversation,
+        len,
+        &mut standing,
+        &mut writer,
+        &mut desk,
+    ) {
+        Ok(outcome) => Some(outcome),
+        Err(_) => None,
+    }
+}
+
+#[test]
+fn each_request_has_its_outcome(rt: HostRuntime) {
+    for (text, route, action, status, closes) in OUTCOMES {
+        let wanted = RequestOutcome {
+            endpoint: Endpoint { route, action },
+            status,
+            closes,
+        };
+        assert_eq!(rt; outcome_of(&rt, rt.alloc(), text), Some(wanted));
     }
 }
 

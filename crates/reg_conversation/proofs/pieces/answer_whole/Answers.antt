@@ -1,5 +1,5 @@
-use Rattle.std.proofs.Common.{◌≡◌, true, false, refl, rules, ◌∙◌}
-use Rattle.reg_conversation.proofs.Turns.{some-begun, stops-held, turn-closed, turn-more}
+use Rattle.std.proofs.Common.{ap, not, true, refl, ◌∙◌}
+use Rattle.reg_conversation.proofs.Turns.{as-held, some-begun, stops-held, turn-closed, turn-more}
 use Rattle.reg_conversation.proofs.pieces.answer_whole.Goals as goal
 
 pub loop-len-init : goal.loop-len-init
@@ -8,22 +8,23 @@ loop-len-init g c = (some-begun g.D.Desk.asks g.D.Desk.commands _ _ _ _ refl, re
 pub loop-len-preserved : goal.loop-len-preserved
 loop-len-preserved g c =
     let (some, faults, few) = c.loop-len.invariant in
-    let now = c.in-Ok-true in
-    let goes : now.field-0 ≡ true = search rules in (
+    let now = c.in-Ok in (
       turn-more g.D.Desk.asks g.D.Desk.commands c.args.desk.now c.loop-len.desk
           c.answer_front.new.desk c.args.conversation.now c.loop-len.conversation
-          c.front_len.new.self c.answer_front.new.self _ _ _ now.field-0 true goes c.front_len.ensures.same some now.ensures.answered,
+          c.front_len.new.self c.answer_front.new.self _ _ _ (not now.outcome.closes) true (ap not c.if-outcome.false)
+          c.front_len.ensures.same some
+          (as-held g.D.Desk.asks g.D.Desk.commands _ _ _ _ _ _ now.outcome now.ensures.answered),
       now.ensures.faults ∙ faults,
       now.ensures.interruptions,
     )
 
-pub returns-in-Ok-false-clause-answered : goal.returns-in-Ok-false-clause-answered
-returns-in-Ok-false-clause-answered g c =
-    let now = c.in-Ok-false in
-    let ends : now.field-0 ≡ false = search rules in
+pub returns-then-outcome-clause-answered : goal.returns-then-outcome-clause-answered
+returns-then-outcome-clause-answered g c =
+    let now = c.in-Ok in
     turn-closed g.D.Desk.asks g.D.Desk.commands c.args.desk.now c.loop-len.desk
     c.answer_front.new.desk c.args.conversation.now c.loop-len.conversation
-    c.front_len.new.self c.answer_front.new.self _ _ _ now.field-0 ends c.front_len.ensures.same c.loop-len.invariant.0 now.ensures.answered
+    c.front_len.new.self c.answer_front.new.self _ _ _ (not now.outcome.closes) (ap not c.if-outcome.true) c.front_len.ensures.same
+    c.loop-len.invariant.0 (as-held g.D.Desk.asks g.D.Desk.commands _ _ _ _ _ _ now.outcome now.ensures.answered)
 
 pub returns-in-Err-clause-refused : goal.returns-in-Err-clause-refused
 returns-in-Err-clause-refused g c =

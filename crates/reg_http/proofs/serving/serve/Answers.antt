@@ -1,6 +1,6 @@
 use Rattle.std.proofs.Common.{ap, inr, refl, ◌∙◌, arith, true, false}
 use Rattle.reg_records.proofs.Ends.{ends_then}
-use Rattle.reg_http.proofs.Ended.{EndsAfter-begun, EndsAfter-closed, EndsAfter-more, EndsAfter-over, EndsRefused-step}
+use Rattle.reg_http.proofs.Ended.{EndsAfter-begun, EndsAfter-more, EndsAfter-over, EndsRefused-step}
 use Rattle.reg_http.proofs.Runs.{began_here, HasAnswered-begun, HasAnswered-more}
 use Rattle.reg_http.proofs.Runs.{IsOutput-of, IsPart-closed, IsPart-full, IsPart-over, IsPart-some, IsServeRefusal-step}
 use Rattle.reg_http.proofs.serving.serve.Goals as goal
@@ -20,9 +20,9 @@ loop-requests-init g c = (
 pub loop-requests-preserved : goal.loop-requests-preserved
 loop-requests-preserved g c =
     let (done, reads, writes, bounds, least, end, lasting, ends) = c.loop-requests.invariant in
-    let now = c.in-Ok-More in (
+    let now = c.in-Ok-Some in (
       HasAnswered-more g.D.Desk.asks g.D.Desk.commands c.args.desk.now c.loop-requests.desk c.answer_next.new.desk
-          _ _ _ _ _ _ c.loop-requests.requests done now.field-0 now.field-0-is now.ensures.step,
+          _ _ _ _ _ _ c.loop-requests.requests done now.field-0 now.outcome now.field-0-is c.if-outcome.false now.ensures.step,
       now.ensures.faults.0 ∙ reads,
       now.ensures.faults.1 ∙ writes,
       (λ _. omega arith, omega arith, omega arith),
@@ -30,34 +30,36 @@ loop-requests-preserved g c =
       ends_then g.R.Read.remaining c.args.reader.now c.loop-requests.reader c.answer_next.new.reader end c.answer_next.ensures.end,
       omega (arith, lasting, now.ensures.lasting),
       EndsAfter-more g.W.Output.writes g.W.Output.flushes c.args.writer.now c.loop-requests.writer
-          c.answer_next.new.writer c.loop-requests.requests now.field-0 now.field-0-is now.ensures.flushed,
+          c.answer_next.new.writer c.loop-requests.requests now.field-0 now.outcome now.field-0-is now.ensures.flushed,
     )
 
-pub returns-in-Ok-Closed-clause-written : goal.returns-in-Ok-Closed-clause-written
-returns-in-Ok-Closed-clause-written g c =
-    let now = c.in-Ok-Closed in
+pub returns-then-outcome-clause-written : goal.returns-then-outcome-clause-written
+returns-then-outcome-clause-written g c =
+    let now = c.in-Ok-Some in
     IsOutput-of g.D.Desk.asks g.D.Desk.commands _ _ _ _ _ (g.R.Read.remaining c.answer_next.new.reader.inner) _ false (
     IsPart-closed g.D.Desk.asks g.D.Desk.commands c.args.desk.now c.loop-requests.desk c.answer_next.new.desk _ _ _ _ _ _
-    c.loop-requests.requests c.loop-requests-test.true c.loop-requests.invariant.0 now.field-0 now.field-0-is now.ensures.step)
+    c.loop-requests.requests c.loop-requests-test.true c.loop-requests.invariant.0 now.field-0 now.outcome now.field-0-is c.if-outcome.true
+    now.ensures.step)
 
-pub returns-in-Ok-Closed-clause-left : goal.returns-in-Ok-Closed-clause-left
-returns-in-Ok-Closed-clause-left g c =
-    let now = c.in-Ok-Closed in
+pub returns-then-outcome-clause-left : goal.returns-then-outcome-clause-left
+returns-then-outcome-clause-left g c =
+    let now = c.in-Ok-Some in
     IsPart-some g.D.Desk.asks g.D.Desk.commands _ _ _ _ _ (g.R.Read.remaining c.answer_next.new.reader.inner) _ false (
     IsPart-closed g.D.Desk.asks g.D.Desk.commands c.args.desk.now c.loop-requests.desk c.answer_next.new.desk _ _ _ _ _ _
-    c.loop-requests.requests c.loop-requests-test.true c.loop-requests.invariant.0 now.field-0 now.field-0-is now.ensures.step)
+    c.loop-requests.requests c.loop-requests-test.true c.loop-requests.invariant.0 now.field-0 now.outcome now.field-0-is c.if-outcome.true
+    now.ensures.step)
 
-pub returns-in-Ok-Over-clause-written : goal.returns-in-Ok-Over-clause-written
-returns-in-Ok-Over-clause-written g c =
-    let now = c.in-Ok-Over in
+pub returns-in-Ok-None-clause-written : goal.returns-in-Ok-None-clause-written
+returns-in-Ok-None-clause-written g c =
+    let now = c.in-Ok-None in
     IsOutput-of g.D.Desk.asks g.D.Desk.commands _ _ _ _ _ (g.R.Read.remaining c.answer_next.new.reader.inner) _ false (
     IsPart-over g.D.Desk.asks g.D.Desk.commands c.args.desk.now c.loop-requests.desk c.answer_next.new.desk _ _ _ _ _ _
     c.loop-requests.requests
     (omega (arith, c.loop-requests-test.true)) c.loop-requests.invariant.0 now.field-0 now.field-0-is now.ensures.step)
 
-pub returns-in-Ok-Over-clause-left : goal.returns-in-Ok-Over-clause-left
-returns-in-Ok-Over-clause-left g c =
-    let now = c.in-Ok-Over in
+pub returns-in-Ok-None-clause-left : goal.returns-in-Ok-None-clause-left
+returns-in-Ok-None-clause-left g c =
+    let now = c.in-Ok-None in
     IsPart-some g.D.Desk.asks g.D.Desk.commands _ _ _ _ _ (g.R.Read.remaining c.answer_next.new.reader.inner) _ false (
     IsPart-over g.D.Desk.asks g.D.Desk.commands c.args.desk.now c.loop-requests.desk c.answer_next.new.desk _ _ _ _ _ _
     c.loop-requests.requests
@@ -85,17 +87,17 @@ returns-clause-left g c =
     IsPart-some g.D.Desk.asks g.D.Desk.commands _ _ _ _ _ (g.R.Read.remaining c.loop-requests.reader.inner) _ true (
     IsPart-full g.D.Desk.asks g.D.Desk.commands _ _ _ _ _ _ _ (omega (arith, c.loop-requests-test.false)) c.loop-requests.invariant.0)
 
-pub returns-in-Ok-Closed-clause-flushed : goal.returns-in-Ok-Closed-clause-flushed
-returns-in-Ok-Closed-clause-flushed g c =
-    let now = c.in-Ok-Closed in
-    EndsAfter-closed g.W.Output.writes g.W.Output.flushes c.args.writer.now
+pub returns-then-outcome-clause-flushed : goal.returns-then-outcome-clause-flushed
+returns-then-outcome-clause-flushed g c =
+    let now = c.in-Ok-Some in
+    EndsAfter-more g.W.Output.writes g.W.Output.flushes c.args.writer.now
     c.loop-requests.writer c.answer_next.new.writer c.loop-requests.requests
-    now.field-0 now.field-0-is now.ensures.flushed
+    now.field-0 now.outcome now.field-0-is now.ensures.flushed
 
-pub returns-in-Ok-Over-clause-flushed : goal.returns-in-Ok-Over-clause-flushed
-returns-in-Ok-Over-clause-flushed g c =
+pub returns-in-Ok-None-clause-flushed : goal.returns-in-Ok-None-clause-flushed
+returns-in-Ok-None-clause-flushed g c =
     let (done, reads, writes, bounds, least, end, lasting, ends) = c.loop-requests.invariant in
-    let now = c.in-Ok-Over in
+    let now = c.in-Ok-None in
     EndsAfter-over g.W.Output.writes g.W.Output.flushes c.args.writer.now
     c.loop-requests.writer c.answer_next.new.writer c.loop-requests.requests
     now.field-0 now.field-0-is now.ensures.flushed ends

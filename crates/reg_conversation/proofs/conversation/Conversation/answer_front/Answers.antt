@@ -1,20 +1,15 @@
-use Rattle.reg_conversation.proofs.Fronts.{held-closed, held-fails, held-more, held-over}
+use Rattle.reg_conversation.proofs.Fronts.{held-answered, held-fails, held-over}
 use Rattle.reg_conversation.proofs.conversation.Conversation.answer_front.Goals as goal
 
 pub unreachable-requires : goal.unreachable-requires
 unreachable-requires g c =
     held-over g.D.Desk.asks g.D.Desk.commands c.args.desk.now c.answer_held.new.desk c.args.self.now c.args.len _ _
-    c.in-Ok-Over.field-0 c.in-Ok-Over.field-0-is c.requires.whole c.in-Ok-Over.ensures.step
+    c.in-Ok-None.field-0 c.in-Ok-None.field-0-is c.requires.whole c.in-Ok-None.ensures.step
 
-pub returns-in-Ok-More-clause-answered : goal.returns-in-Ok-More-clause-answered
-returns-in-Ok-More-clause-answered g c =
-    held-more g.D.Desk.asks g.D.Desk.commands c.args.desk.now c.answer_held.new.desk c.args.self.now c.answer_held.new.self c.args.len _ _
-    c.in-Ok-More.field-0 c.in-Ok-More.field-0-is c.requires.whole c.answer_held.ensures.dropped c.in-Ok-More.ensures.step
-
-pub returns-in-Ok-Closed-clause-answered : goal.returns-in-Ok-Closed-clause-answered
-returns-in-Ok-Closed-clause-answered g c =
-    held-closed g.D.Desk.asks g.D.Desk.commands c.args.desk.now c.answer_held.new.desk c.args.self.now c.answer_held.new.self c.args.len _ _
-    c.in-Ok-Closed.field-0 c.in-Ok-Closed.field-0-is c.requires.whole c.in-Ok-Closed.ensures.step
+pub returns-in-Ok-Some-clause-answered : goal.returns-in-Ok-Some-clause-answered
+returns-in-Ok-Some-clause-answered g c =
+    held-answered g.D.Desk.asks g.D.Desk.commands c.args.desk.now c.answer_held.new.desk c.args.self.now c.answer_held.new.self c.args.len _ _
+    c.in-Ok-Some.field-0 c.in-Ok-Some.outcome c.in-Ok-Some.field-0-is c.requires.whole c.answer_held.ensures.dropped c.in-Ok-Some.ensures.step
 
 pub returns-in-Err-clause-refused : goal.returns-in-Err-clause-refused
 returns-in-Err-clause-refused g c = λ more.
