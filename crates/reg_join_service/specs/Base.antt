@@ -7,7 +7,11 @@ use Rattle.reg_records.specs.declared.log.Log.{Log}
 use Rattle.reg_records.specs.declared.log.LogError.TheVariants as logs
 use Rattle.reg_set.specs.LastRecords.{last_records}
 use Rattle.reg_set.specs.Records.{Records}
+use Rattle.reg_fold.specs.Closed.{is_closed}
 use Rattle.reg_fold.specs.IdMark.{needs_mark}
+use Rattle.reg_topic.specs.Topic.{topic_from}
+use Rattle.reg_shared.specs.Held.{held_of}
+use Rattle.reg_shared.specs.declared.shared.Begun.{Begun}
 use Rattle.reg_inspection.specs.Obstacles.{obstacles}
 use Rattle.reg_join_service.specs.declared.base_error.JoinBaseError.{JoinBaseError}
 use Rattle.reg_join_service.specs.declared.base_error.JoinBaseError.TheVariants as errors
@@ -24,6 +28,12 @@ lasts_of log = last_records (from_list log.records.items)
 pub record MayBegin (log : Log) : Type 0 where
   pub servable : obstacles (lasts_of log) log.next ≡ []
   pub settled : needs_mark (lasts_of log) ≡ false
+
+-- a topic over the log begins with that, and with nothing beside the log: the log takes commands, and owes no mark of ids
+pub record BeginsWith (log : Log) (begun : Begun) : Type 0 where
+  pub held : begun.shared ≡ held_of (topic_from log.records.items log.next log.floor)
+  pub nothing_due : begun.due.items ≡ []
+  pub takes_commands : is_closed (lasts_of log) ≡ false
 
 -- why a process can't begin with a log; memory may be refused at any time
 abbrev pub IsRefusedLog : Log → JoinBaseError → Type 0

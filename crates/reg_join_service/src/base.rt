@@ -1,53 +1,69 @@
 // The base that an adapter tells first.
-ghost use Rattle.std.specs.Prelude.{◌≡◌, IfErr, IfOk, OnOk};
-ghost use Rattle.std.specs.FinSet.{from_list};
+ghost use Rattle.std.specs.Prelude.{IfErr, IfOk, OnOk};
 ghost use Rattle.reg_records.specs.Device.{bytes_in};
-ghost use Rattle.reg_set.specs.LastRecords.{last_records};
-ghost use Rattle.reg_fold.specs.IdMark.{needs_mark};
-ghost use Rattle.reg_join_service.specs.Base.{HasRead, IsNoBase, IsRefusedLog, MayBegin};
+ghost use Rattle.reg_leader.specs.Adoption.{IsAdoptRefusal};
+ghost use Rattle.reg_join_service.specs.Base.{BeginsWith, HasRead, IsNoBase, IsRefusedLog, MayBegin, lasts_of};
 
 use crate::base_error::JoinBaseError;
-use reg_fold::Registry;
-use reg_inspection::obstacles;
-use reg_records::{Device, Log, Record, read_log};
-use reg_set::RecordSet;
-use std::alloc::{AllocError, Global};
+use reg_inspection::{no_obstacle_is_open, obstacles};
+use reg_leader::AdoptError;
+use reg_records::{Device, Log, LogError, read_log};
+use reg_shared::{Begun, Shared};
+use std::alloc::Global;
 use std::io::BufRead;
+
+/// A log that a process begins with.
+#[derive(Drop)]
+pub struct Base {
+    pub log: Log,
+    /// What a topic over the log begins with: nothing but the log.
+    pub begun: Begun,
+}
 
 /// Reads the base that an adapter tells first: a log up to its empty line, which nothing keeps from being served, and behind which no mark
 /// of ids is due. What stands behind the empty line is left unread.
-pub fn read_base<B: BufRead>(alloc: Global, reader: &mut Device<B>) -> Result<Log, JoinBaseError>
-    ensures read { IfOk result (HasRead (bytes_in B.remaining reader.old) (bytes_in B.remaining reader.new)) }
-    ensures begins { IfOk result MayBegin }
+pub fn read_base<B: BufRead>(alloc: Global, reader: &mut Device<B>) -> Result<Base, JoinBaseError>
+    ensures read { IfOk result (λ base. HasRead (bytes_in B.remaining reader.old) (bytes_in B.remaining reader.new) base.log) }
+    ensures begins { IfOk result (λ base. MayBegin base.log) }
+    ensures begun { IfOk result (λ base. BeginsWith base.log base.begun) }
     ensures refused { IfErr result (IsNoBase reader.old reader.new (bytes_in B.remaining reader.old) (bytes_in B.remaining reader.new)) }
 {
     let log = read_log(alloc, reader)?;
-    match may_begin(alloc, &log) {
-        Ok(()) => Ok(log),
+    match begin_with(alloc, &log) {
+        Ok(begun) => Ok(Base { log, begun }),
         Err(error) => Err(error),
     }
 }
 
-/// Whether a process may begin with the log.
-fn may_begin(alloc: Global, log: &Log) -> Result<(), JoinBaseError>
+/// Adopts a log that a process may begin with.
+fn begin_with(alloc: Global, log: &Log) -> Result<Begun, JoinBaseError>
     ensures begins { OnOk result (MayBegin log.now) }
+    ensures begun { IfOk result (BeginsWith log.now) }
     ensures refused { IfErr result (IsRefusedLog log.now) }
 {
-    let found = obstacles(alloc, log)?;
-    if !found.is_empty() {
-        return Err(JoinBaseError::Closed(found));
-    }
-    if owes_mark(alloc, &log.records)? {
+    no_obstacle_is_open();
+    let begun = match Shared::adopt(alloc, log) {
+        Ok(begun) => begun,
+        Err(refused) => return Err(refusal(alloc, log, refused)),
+    };
+    if !begun.due.is_empty() {
         return Err(JoinBaseError::MarkDue);
     }
-    Ok(())
+    Ok(begun)
 }
 
-/// Whether a mark of ids is due behind those records. The only error is out of memory.
-fn owes_mark(alloc: Global, records: &[Record]) -> Result<bool, AllocError>
-    ensures { IfOk result (λ owes. owes ≡ needs_mark (last_records (from_list records.now))) }
+/// Returns why no process can begin with a log that isn't adopted: all that keeps it from being served, unless memory is refused.
+fn refusal(alloc: Global, log: &Log, refused: AdoptError) -> JoinBaseError
+    requires { IsAdoptRefusal (lasts_of log.now) log.now.next refused }
+    ensures { IsRefusedLog log.now result }
 {
-    let set = RecordSet::of(alloc, records)?;
-    let registry = Registry::of_set(alloc, &set)?;
-    Ok(registry.mark() < registry.greatest_id().unwrap_or(0))
+    match refused {
+        AdoptError::OutOfMemory => JoinBaseError::Log(LogError::OutOfMemory),
+        AdoptError::Opaque(_) | AdoptError::TwoSchemas(_) | AdoptError::NumbersUsedUp => {
+            match obstacles(alloc, log) {
+                Ok(found) => JoinBaseError::Closed(found),
+                Err(_refused) => JoinBaseError::Log(LogError::OutOfMemory),
+            }
+        }
+    }
 }

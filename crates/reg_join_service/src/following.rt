@@ -2,13 +2,14 @@
 use crate::taking::Taker;
 use crate::watch::Watch;
 use reg_adapter_line::AdapterLine;
-use reg_chain::Chain;
+use reg_chain::{Chain, ChainAnswer};
 use reg_feed::{Copies, FeedName};
 use reg_join::TakenIn;
 use reg_join_desk::{JoinedPen, SharedCheck};
 use reg_service::Follow;
 use reg_shared::Shared;
 use reg_topic::Item;
+use std::alloc::AllocError;
 use std::sync::{Mutex, Wait};
 use std::thread::Parker;
 use std::time::Clock;
@@ -45,17 +46,38 @@ impl<
         if taker.passes_over() {
             return;
         }
-        let mut pen = self.pen.lock(self.rt);
         let taken = if checks {
-            taker.check(&mut pen)
+            self.check(&mut taker)
         } else {
-            taker.take(&mut pen)
+            self.take_told(&mut taker)
         };
         match taken {
             Ok(TakenIn::Batch) => self.line.grown().unpark(),
             Ok(TakenIn::Stopped) => self.watch.stopped(taker.next()),
             Ok(TakenIn::All) | Err(_) => {}
         }
+    }
+
+    /// Takes in what was told, asks whether something stands behind it, while others may have the pen, and where that is so, takes in what was
+    /// told since. The only error is out of memory.
+    fn check(&self, taker: &mut Taker<N, S, C>) -> Result<TakenIn, AllocError> {
+        let taken = self.take_all(taker)?;
+        if taken == TakenIn::All && taker.ask_for_news() == ChainAnswer::Behind {
+            return self.take_all(taker);
+        }
+        Ok(taken)
+    }
+
+    /// Takes in some of what was told, while nobody else has the pen.
+    fn take_told(&self, taker: &mut Taker<N, S, C>) -> Result<TakenIn, AllocError> {
+        let mut pen = self.pen.lock(self.rt);
+        taker.take(&mut pen)
+    }
+
+    /// Takes in all that was told, while nobody else has the pen.
+    fn take_all(&self, taker: &mut Taker<N, S, C>) -> Result<TakenIn, AllocError> {
+        let mut pen = self.pen.lock(self.rt);
+        taker.take_all(&mut pen)
     }
 }
 

@@ -16,7 +16,7 @@ mod taking;
 mod talking;
 mod watch;
 
-pub use base::read_base;
+pub use base::{Base, read_base};
 pub use base_error::JoinBaseError;
 pub use error::JoinError;
 pub use reg_adapter_line::{AskedFor, Heard, Overhear};

@@ -1,17 +1,15 @@
 // The pen over a base.
-ghost use Rattle.std.specs.Prelude.{◌≡◌, ◌<◌, [], false, IfOk, OnOk};
-ghost use Rattle.std.specs.FinSet.{from_list};
-ghost use Rattle.reg_set.specs.LastRecords.{last_records};
-ghost use Rattle.reg_fold.specs.IdMark.{needs_mark};
+ghost use Rattle.std.specs.Prelude.{◌≡◌, ◌<◌, [], IfOk, OnOk};
 ghost use Rattle.reg_topic.specs.Topic.{IsAdopted, topic_from};
 ghost use Rattle.reg_shared.specs.Held.{base_of, held_of};
+ghost use Rattle.reg_join_service.specs.Base.{BeginsWith, MayBegin};
 
+use crate::base::Base;
 use reg_chain::Chain;
 use reg_feed::{FeedName, Stored, Unnamed};
 use reg_join::JoinKeep;
 use reg_join_desk::JoinedPen;
-use reg_pen::{KeptLog, OpenError, Opened, Pass, open};
-use reg_records::Log;
+use reg_pen::{KeptLog, OpenError, Opened, Pass, open_begun};
 use reg_shared::Shared;
 use reg_topic::Item;
 use std::alloc::Global;
@@ -24,28 +22,32 @@ pub(crate) struct OpenedBase<N: FeedName<Item, Shared>, C: Chain + Drop, R: Wait
     pub(crate) passes: Vec<Pass<N>>,
 }
 
-/// Opens a pen over a base behind which no mark of ids is due, and over a chain that has told nothing: the chain isn't asked for anything.
-/// There are so many passes, and places for so many readers.
+/// Opens a pen over a base, and over a chain that has told nothing: the chain isn't asked for anything. There are so many passes, and places
+/// for so many readers.
 pub(crate) fn open_base<N: FeedName<Item, Shared>, C: Chain + Drop, R: Wait + Drop>(
     rt: R,
     alloc: Global,
     list: Unnamed<Item>,
-    log: Log,
+    base: Base,
     chain: C,
     count: u32,
 ) -> Result<OpenedBase<N, C, R>, OpenError>
-    requires name { (list.reached.book ≡ N.book) × (N.first ≡ held_of (topic_from log.records.items log.next log.floor)) }
-    requires settled { needs_mark (last_records (from_list log.records.items)) ≡ false }
+    requires name { (list.reached.book ≡ N.book) × (N.first ≡ held_of (topic_from base.log.records.items base.log.next base.log.floor)) }
+    requires begins { MayBegin base.log }
+    requires begun { BeginsWith base.log base.begun }
     requires new { C.told chain ≡ [] }
     requires readers { 0 < count }
     ensures begun { IfOk result (λ opened. opened.pen.published ≡ []) }
     ensures chain { IfOk result (λ opened. opened.pen.keep.chain ≡ chain) }
     ensures adopted { OnOk result (IsAdopted (base_of N.first)) }
 {
+    let Base { log, begun } = base;
     let keep = JoinKeep::new(chain);
     let kept = KeptLog::new(log, keep);
     let readers = count as usize;
-    let Opened { pen, passes } = open::<N, JoinKeep<C>, R>(rt, alloc, list, kept, count, readers)?;
+    let Opened { pen, passes } = open_begun::<N, JoinKeep<C>, R>(
+        rt, alloc, list, kept, begun, count, readers,
+    )?;
     let boxed = Box::new(alloc, pen)?;
     let joined = JoinedPen::new(boxed);
     Ok(OpenedBase {

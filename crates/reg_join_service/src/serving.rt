@@ -1,12 +1,10 @@
 // A process over a log that others write too: the base, the history, and then the ports.
-ghost use Rattle.std.specs.Prelude.{◌≡◌, ◌≤◌, [], false, IfOk};
-ghost use Rattle.std.specs.FinSet.{from_list};
-ghost use Rattle.reg_set.specs.LastRecords.{last_records};
-ghost use Rattle.reg_fold.specs.IdMark.{needs_mark};
+ghost use Rattle.std.specs.Prelude.{◌≡◌, ◌≤◌, [], IfOk};
 ghost use Rattle.reg_topic.specs.Topic.{topic_from};
 ghost use Rattle.reg_shared.specs.Held.{held_of};
+ghost use Rattle.reg_join_service.specs.Base.{BeginsWith, MayBegin};
 
-use crate::base::read_base;
+use crate::base::{Base, read_base};
 use crate::desks::{make_desks, waits_of};
 use crate::error::JoinError;
 use crate::following::Following;
@@ -22,7 +20,7 @@ use reg_feed::{Copies, FeedName, Stored, Unnamed};
 use reg_join_desk::{JoinedPen, SharedCheck};
 use reg_meters::Traffic;
 use reg_pen::Pass;
-use reg_records::{Device, Log};
+use reg_records::Device;
 use reg_service::{Endpoints, ServiceError, Size, serve_desks};
 use reg_shared::Shared;
 use reg_topic::Item;
@@ -37,8 +35,11 @@ use std::sync::{Arc, Mutex, Wait};
 use std::thread::Threads;
 use std::time::{Clock, Duration};
 
-/// How long an answer of the adapter is waited for, in seconds.
+/// How long a command waits for an answer of the adapter, in seconds.
 const ANSWER_WITHIN: u64 = 30;
+
+/// How long a check for lookups waits for one, in seconds: so long a command may have to wait for the check.
+const CHECKED_WITHIN: u64 = 1;
 
 /// Serves a log that others write too, which an adapter tells on the reader, and to which it is asked to append on the writer: the base,
 /// then what stands behind it; the ports listen once all of it was taken in that was told before `ready`. A port has from 2 to 16 workers,
@@ -66,7 +67,7 @@ pub fn serve_joined<
     endpoints: &mut E,
 ) -> Result<(), JoinError> {
     let mut device = Device::new(reader);
-    let log = read_base(alloc, &mut device)?;
+    let base = read_base(alloc, &mut device)?;
     let mut adapter = Some(Adapter {
         reader: device.into_inner(),
         writer,
@@ -76,7 +77,7 @@ pub fn serve_joined<
         alloc,
         joined_size(size),
         Unnamed::new(),
-        log,
+        base,
         &mut adapter,
         overhear,
         traffic,
@@ -108,21 +109,22 @@ fn serve_base<
     alloc: Global,
     size: Size,
     list: Unnamed<Item>,
-    log: Log,
+    base: Base,
     adapter: &mut Option<Adapter<B, O>>,
     overhear: &Arc<H, Global>,
     traffic: &Traffic,
     watch: &W,
     endpoints: &mut E,
 ) -> Result<(), JoinError>
-    requires name { (list.reached.book ≡ N.book) × (N.first ≡ held_of (topic_from log.records.items log.next log.floor)) }
-    requires settled { needs_mark (last_records (from_list log.records.items)) ≡ false }
+    requires name { (list.reached.book ≡ N.book) × (N.first ≡ held_of (topic_from base.log.records.items base.log.next base.log.floor)) }
+    requires begins { MayBegin base.log }
+    requires begun { BeginsWith base.log base.begun }
 {
-    let next = log.next;
+    let next = base.log.next;
     let Ends { line, chain, rest } = ends_behind(*rt, alloc, next)?;
     // A pass and a reader for each desk, and for what takes in.
     let count = size.desks().saturating_add(1);
-    let opened = open_base::<N, AdapterChain<R>, R>(*rt, alloc, list, log, chain, count)?;
+    let opened = open_base::<N, AdapterChain<R>, R>(*rt, alloc, list, base, chain, count)?;
     let mut held = hold(alloc, opened, next, rest)?;
     if let Some(Adapter { reader, writer }) = adapter.take() {
         start_talking(*rt, alloc, reader, writer, &line, overhear)?;
@@ -146,10 +148,11 @@ fn ends_behind<R: Wait + Clock + Copy + Drop>(
 ) -> Result<Ends<R>, ServiceError>
     ensures { IfOk result (λ ends. ends.chain ≡ []) }
 {
+    let line = Arc::new(alloc, AdapterLine::new(alloc, next))?;
     let patience = Duration::from_secs(ANSWER_WITHIN);
-    let line = Arc::new(alloc, AdapterLine::new(alloc, next, patience))?;
-    let chain = AdapterChain::new(rt, alloc, Arc::try_clone(&line)?);
-    let rest = AdapterChain::new(rt, alloc, Arc::try_clone(&line)?);
+    let chain = AdapterChain::new(rt, alloc, Arc::try_clone(&line)?, patience);
+    let patience = Duration::from_secs(CHECKED_WITHIN);
+    let rest = AdapterChain::new(rt, alloc, Arc::try_clone(&line)?, patience);
     Ok(Ends { line, chain, rest })
 }
 

@@ -26,7 +26,7 @@ pub(crate) struct Taker<N: FeedName<Item, Shared>, S: Copies<Item, Shared, N>, C
     // The next offset when it was looked up last.
     next: u64,
     is_stopped: bool,
-    // The pen's chain, from which batches are taken that the pen doesn't take any more.
+    // Another end of the pen's chain: it is asked for news, and gives the batches that the pen doesn't take any more.
     rest: C,
 }
 
@@ -68,20 +68,19 @@ impl<N: FeedName<Item, Shared>, S: Copies<Item, Shared, N>, C: Chain + Drop> Tak
         self.take_some(pen, TAKEN_AT_ONCE)
     }
 
-    /// Takes in what was told, asks the chain whether something stands behind it, and where that is so, takes in what was told since. The only
-    /// error is out of memory.
-    #[tactic(auto, using(crate::proofs::Prefixes::prefix_self, crate::proofs::Prefixes::prefix_trans))]
-    pub(crate) fn check<R: Wait + Drop>(
+    /// Takes in what was told, 65,536 batches at most. `All` where nothing is left. The only error is out of memory.
+    pub(crate) fn take_all<R: Wait + Drop>(
         &mut self,
         pen: &mut JoinedPen<N, S, C, R>,
     ) -> Result<TakenIn, AllocError>
         ensures { IsPrefix pen.old.published pen.new.published }
     {
-        let taken = self.take_some(pen, TAKEN_WITH_CHECK)?;
-        if taken == TakenIn::All && pen.check() == ChainAnswer::Behind {
-            return self.take_some(pen, TAKEN_WITH_CHECK);
-        }
-        Ok(taken)
+        self.take_some(pen, TAKEN_WITH_CHECK)
+    }
+
+    /// Asks the chain whether something stands behind all that was told. It needs no pen.
+    pub(crate) fn ask_for_news(&mut self) -> ChainAnswer {
+        self.rest.append(&[])
     }
 
     /// Whether nothing is taken in any more, since something that was told was no command's. What was told since is dropped then.

@@ -4,6 +4,7 @@ use Rattle.std.specs.FinSet.{from_list}
 use Rattle.reg_records.specs.declared.record.Record.{Record}
 use Rattle.reg_set.specs.LastRecords.{last_records}
 use Rattle.reg_leader.specs.Adoption.{IsAdoptRefusal, adopt_error_text}
+use Rattle.reg_leader.specs.declared.adoption.AdoptError.TheVariants as adopts
 use Rattle.reg_topic.specs.Topic.{owed_by}
 use Rattle.reg_pen.specs.declared.keep.Kept.{Kept}
 use Rattle.reg_pen.specs.declared.keep.Kept.TheVariants.{Taken, Declined, Lost, Unknown}
@@ -27,6 +28,12 @@ module _ {K : Type 0} (keeps : K → List Record → Kept → K → Type 0) wher
   IsKeepRefusal old due (errors.Adopt refused) = ⊥
   IsKeepRefusal old due (errors.Declined lack) = (due ≢ []) × (new : K) × keeps old due (Declined lack) new
   IsKeepRefusal old due errors.Lost = (due ≢ []) × (new : K) × (keeps old due Lost new ⊎ keeps old due Unknown new)
+
+  -- memory was refused, or the keep didn't take what is due
+  abbrev pub IsBegunRefusal : K → List Record → OpenError → Type 0
+  IsBegunRefusal old due (errors.Adopt refused) = refused ≡ adopts.OutOfMemory
+  IsBegunRefusal old due (errors.Declined lack) = IsKeepRefusal old due (errors.Declined lack)
+  IsBegunRefusal old due errors.Lost = IsKeepRefusal old due errors.Lost
 
   -- a topic can't begin with the log, or the keep didn't take what the log owes
   abbrev pub IsOpenRefusal : List Record → ℕ → K → OpenError → Type 0

@@ -20,5 +20,5 @@ pub use laws::submits_publish_or_wait;
 pub use lending::WithKeep;
 pub use open_error::OpenError;
 pub use pass::Pass;
-pub use pen::{Opened, Pen, Submitted, open};
+pub use pen::{Opened, Pen, Submitted, open, open_begun};
 pub use telling::{Tell, Told};

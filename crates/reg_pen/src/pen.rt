@@ -4,13 +4,14 @@ ghost use mathlib.Core.List.{IsPrefix};
 ghost use Rattle.std.specs.FinSet.{from_list};
 ghost use Rattle.reg_set.specs.LastRecords.{last_records};
 ghost use Rattle.reg_leader.specs.Adoption.{HasPlace};
+ghost use Rattle.reg_fold.specs.Closed.{is_closed};
 ghost use Rattle.reg_leader.specs.Outcome.{IsOutOfMemory};
 ghost use Rattle.reg_fold.specs.GiveAlike.{GiveAlike};
 ghost use Rattle.reg_floored.specs.Floors.{compacted_to, without};
 ghost use Rattle.reg_topic.specs.Topic.{IsAdopted, MayCommit, MayFollow, after_items, may_compact, owed_by, registry_of, topic_from};
 ghost use Rattle.reg_shared.specs.Held.{base_of, held_of, topic_at};
 ghost use Rattle.reg_pen.specs.Deletes.{floor_due};
-ghost use Rattle.reg_pen.specs.Opening.{IsKeepRefusal, IsOpenRefusal, KeepsDue};
+ghost use Rattle.reg_pen.specs.Opening.{IsBegunRefusal, IsKeepRefusal, IsOpenRefusal, KeepsDue};
 ghost use Rattle.reg_pen.specs.Pen.{Acts, Compacts, CompactsTo, Follows, IsAhead, IsBehind, IsCompactRefusal, IsNoMemory, IsPen, IsStepAfter, IsUnsettled, LeavesCompaction, MaySetFloor, Submits, StillPends, batches, counted, settled, with_pending};
 ghost use Rattle.reg_pen.specs.Pending.{EndsByLimit, IsClear, IsFirst, IsPending, after, batches_in, is_lost, reply_of};
 ghost use Rattle.reg_pen.specs.declared.keep.Kept.{Kept};
@@ -29,7 +30,7 @@ use reg_fold::{Refusal, Registry, StoreFault};
 use reg_leader::{Command, Decision, Reply, decide};
 use reg_levels::Judged;
 use reg_records::Record;
-use reg_shared::{Shared, kept_gives_registry, published_lists_fold};
+use reg_shared::{Begun, Shared, kept_gives_registry, published_lists_fold};
 use reg_topic::{
     Commit, Compaction, Item, adopted_logs_begin, commits_follow, floors_stay_below,
     lawful_items_follow,
@@ -134,15 +135,40 @@ pub fn open<N: FeedName<Item, Shared>, K: Keep + Drop, R: Wait + Drop>(
     ensures passes { IfOk result (λ opened. map (λ p. p.submits) opened.passes.items ≡ replicate passes 0) }
     ensures refused { IfErr result (IsOpenRefusal K.keeps kept.log.records.items kept.log.next kept.keep) }
 {
+    let begun = Shared::adopt(alloc, kept.log())?;
+    open_begun::<N, K, R>(rt, alloc, list, kept, begun, passes, readers)
+}
+
+/// Opens a pen as [`open`] does, over a log of which it is known already what a topic begins with.
+pub fn open_begun<N: FeedName<Item, Shared>, K: Keep + Drop, R: Wait + Drop>(
+    rt: R,
+    alloc: Global,
+    list: Unnamed<Item>,
+    kept: KeptLog<K>,
+    begun: Begun,
+    passes: u32,
+    readers: usize,
+) -> Result<Opened<N, Stored<Item, Shared, N>, K, R>, OpenError>
+    requires name { (list.reached.book ≡ N.book) × (N.first ≡ held_of (topic_from kept.log.records.items kept.log.next kept.log.floor)) }
+    requires readers { (0 < readers) × (readers < 2 ^ 32) }
+    requires held { begun.shared ≡ held_of (topic_from kept.log.records.items kept.log.next kept.log.floor) }
+    requires due { begun.due.items ≡ owed_by kept.log.records.items kept.log.next }
+    requires takes_commands { is_closed (last_records (from_list kept.log.records.items)) ≡ false }
+    ensures begun { IfOk result (λ opened. opened.pen ≡ record { published = []; pending = []; lost = false; keep = opened.pen.keep }) }
+    ensures kept { IfOk result (λ opened. KeepsDue K.keeps kept.keep (owed_by kept.log.records.items kept.log.next) opened.pen.keep) }
+    ensures adopted { OnOk result (IsAdopted (base_of N.first)) }
+    ensures passes { IfOk result (λ opened. map (λ p. p.submits) opened.passes.items ≡ replicate passes 0) }
+    ensures refused { IfErr result (IsBegunRefusal K.keeps kept.keep (owed_by kept.log.records.items kept.log.next)) }
+{
     adopted_logs_begin();
     let KeptLog { log, mut keep } = kept;
-    let begun = Shared::adopt(alloc, &log)?;
     drop(log);
-    let deletes = Deletes::at_first(&begun.shared)?;
-    let writer = feed::<Item, Shared, N, R>(rt, alloc, list, begun.shared, readers)?;
+    let Begun { shared, due } = begun;
+    let deletes = Deletes::at_first(&shared)?;
+    let writer = feed::<Item, Shared, N, R>(rt, alloc, list, shared, readers)?;
     let writer = Box::new(alloc, writer)?;
     let passes = new_passes(alloc, passes)?;
-    lend_due(&mut keep, &begun.due)?;
+    lend_due(&mut keep, &due)?;
     let shared = writer.value();
     let (floor, next) = (shared.floor(), shared.next());
     let pen = Pen {
