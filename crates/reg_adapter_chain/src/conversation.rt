@@ -83,6 +83,13 @@ impl AdapterConversation {
         Ok(Asking::Asked)
     }
 
+    /// Whether a command waits for the answer to the request.
+    pub fn is_waited_for(&self) -> bool
+        ensures { result ≡ self.now.waits }
+    {
+        self.waits
+    }
+
     /// The command that waits goes on without its answer. If its batch is kept, it is handed out then like anybody's.
     pub fn give_up(&mut self)
         ensures { self.new ≡ record self.old { waits = false } }

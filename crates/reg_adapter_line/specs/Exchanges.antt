@@ -1,5 +1,5 @@
 -- What threads do with what a process and its adapter say to each other.
-use Rattle.std.specs.Prelude.{◌≡◌, ◌≢◌, ◌≤◌, Vec, ℕ, List, [], false, ◌||◌, Option, Some, None, length}
+use Rattle.std.specs.Prelude.{◌≡◌, ◌≢◌, ◌⊎◌, ◌≤◌, Vec, ℕ, List, [], true, false, ◌||◌, Option, Some, None, length}
 use Rattle.reg_records.specs.declared.record.Record.{Record}
 use Rattle.reg_adapter.specs.declared.told.AdapterMessage.{AdapterMessage}
 use Rattle.reg_chain.specs.declared.chain.ChainAnswer.{ChainAnswer}
@@ -51,6 +51,11 @@ by_settling s = settled_from s.answer s
 -- no answer came, and one still may
 abbrev pub IsWaiting : Exchange → Type 0
 IsWaiting s = (s.answer ≡ None) × (s.end ≡ None)
+
+-- somebody waits for an answer, or hasn't taken it, and it isn't over
+pub record IsTaken (s : Exchange) : Type 0 where
+  pub goes_on : s.end ≡ None
+  pub waited_for : (s.answer ≢ None) ⊎ (s.conversation.waits ≡ true)
 
 -- so many batches are due before `ready` that the next message waits
 pub record IsFull (s : Exchange) : Type 0 where

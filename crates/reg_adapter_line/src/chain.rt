@@ -11,7 +11,7 @@ use reg_records::{Record, has_line};
 use std::alloc::{AllocError, Global};
 use std::marker::Model;
 use std::sync::{Arc, Wait};
-use std::time::Clock;
+use std::time::{Clock, Duration};
 
 /// The chain behind an adapter, as a pen sees it. Contracts see it as the batches that it told: those that `next` gave, and those that were asked for
 /// and kept. No memory is kept of them.
@@ -23,6 +23,8 @@ pub struct AdapterChain<R: Wait + Clock + Drop> {
     rt: R,
     alloc: Global,
     line: Arc<AdapterLine, Global>,
+    /// How long an answer is waited for.
+    patience: Duration,
     told: ToldList<Listed<Record>>,
 }
 
@@ -36,14 +38,20 @@ impl<R: Wait + Clock + Drop> Model for AdapterChain<R> {
 }
 
 impl<R: Wait + Clock + Drop> AdapterChain<R> {
-    /// Nothing was told.
-    pub fn new(rt: R, alloc: Global, line: Arc<AdapterLine, Global>) -> AdapterChain<R>
+    /// Nothing was told. An answer is waited for as long as `patience` says, and before that as long for one that somebody else waits for.
+    pub fn new(
+        rt: R,
+        alloc: Global,
+        line: Arc<AdapterLine, Global>,
+        patience: Duration,
+    ) -> AdapterChain<R>
         ensures { result ≡ [] }
     {
         AdapterChain {
             rt,
             alloc,
             line,
+            patience,
             told: ToldList::new(),
         }
     }
@@ -54,8 +62,9 @@ impl<R: Wait + Clock + Drop> Chain for AdapterChain<R> {
 
     ghost answers = { λ _ _ _ _. ⊤ };
 
-    /// It waits for the answer as long as the line's patience says. Where none came, or it is over, it can't be known whether records stand, and a
-    /// check is declined. What is asked for while a request has no answer is declined at once, and so is a record that no line has.
+    /// It waits for the answer as long as its patience says. Where none came, or it is over, it can't be known whether records stand, and a check
+    /// is declined. What is asked for while a request has no answer, for which nobody waits any more, is declined at once, and so is a record
+    /// that no line has.
     fn append(&mut self, batch: &[Record]) -> ChainAnswer {
         let Ok(asked) = copies_of(self.alloc, batch) else {
             return self.line.refuse(&self.rt);
@@ -63,7 +72,7 @@ impl<R: Wait + Clock + Drop> Chain for AdapterChain<R> {
         let Some(bytes) = bytes_of(self.alloc, batch) else {
             return self.line.refuse(&self.rt);
         };
-        let answer = self.line.ask(&self.rt, batch, bytes);
+        let answer = self.line.ask(&self.rt, batch, bytes, self.patience);
         if answer == ChainAnswer::Kept && !batch.is_empty() {
             self.told = self.told.and(&asked);
         }

@@ -28,7 +28,7 @@ pub(crate) struct Exchange {
 
 impl Exchange {
     ghost use Rattle.reg_adapter_line.specs.Answers.{settled};
-    ghost use Rattle.reg_adapter_line.specs.Exchanges.{IsAskedFor, IsAtOnce, IsFull, IsHeard, IsNotHeard, IsWaiting, begun, by_settling};
+    ghost use Rattle.reg_adapter_line.specs.Exchanges.{IsAskedFor, IsAtOnce, IsFull, IsHeard, IsNotHeard, IsTaken, IsWaiting, begun, by_settling};
 
     /// Nothing was said yet behind a base whose next offset is this.
     pub(crate) fn new(alloc: Global, next: u64) -> Exchange
@@ -119,6 +119,13 @@ impl Exchange {
         ensures { IsTrue result ↔ IsWaiting self.now }
     {
         self.answer.is_none() && self.end.is_none()
+    }
+
+    /// Whether whoever asks next has to wait: somebody waits for an answer, or hasn't taken it yet, and it isn't over.
+    pub(crate) fn is_taken(&self) -> bool
+        ensures { IsTrue result ↔ IsTaken self.now }
+    {
+        self.end.is_none() && (self.answer.is_some() || self.conversation.is_waited_for())
     }
 
     /// Whether a message has to wait until batches were taken.

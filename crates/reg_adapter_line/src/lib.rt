@@ -2,8 +2,8 @@
 //! of it, and a log's pen asks and takes through [`AdapterChain`], which is the adapter's chain as one of its writers sees it.
 //!
 //! What is said and what is due is one value, an exchange over a conversation (`reg_adapter_chain`), under one lock that nobody holds while it
-//! waits. An answer is waited for as long as the line's patience says. The command then goes on without it, nothing more is asked until it comes,
-//! and a batch that it says is kept is handed out like anybody's.
+//! waits. An answer is waited for as long as the patience of whoever asked says. Who asks meanwhile waits for that. Once it goes on without its
+//! answer, nothing more is asked until that comes, and a batch that it says is kept is handed out like anybody's.
 //!
 //! ```text
 //! input  -> read_messages -> AdapterLine -> AdapterChain::next, AdapterChain::append

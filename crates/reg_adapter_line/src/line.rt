@@ -20,10 +20,8 @@ pub(crate) const AGAIN: u64 = 20;
 /// What a process and its adapter told each other, for all threads of the process. No thread holds its lock while it waits.
 #[derive(Drop)]
 pub struct AdapterLine {
-    /// How long an answer is waited for.
-    patience: Duration,
     exchange: Mutex<Exchange>,
-    /// A message was taken, or it is over.
+    /// A message was taken, an answer was, or it is over.
     heard: Condvar,
     /// A request is to be written, or it is over.
     asked: Condvar,
@@ -36,10 +34,9 @@ pub struct AdapterLine {
 }
 
 impl AdapterLine {
-    /// Nothing was said yet behind a base whose next offset is `next`. An answer is waited for as long as `patience` says.
-    pub fn new(alloc: Global, next: u64, patience: Duration) -> AdapterLine {
+    /// Nothing was said yet behind a base whose next offset is `next`.
+    pub fn new(alloc: Global, next: u64) -> AdapterLine {
         AdapterLine {
-            patience,
             exchange: Mutex::new(Exchange::new(alloc, next)),
             heard: Condvar::new(),
             asked: Condvar::new(),
@@ -89,22 +86,30 @@ impl AdapterLine {
         self.exchange.lock(rt).at_once()
     }
 
-    /// Asks for a batch by these bytes, and waits for the answer.
+    /// Asks for a batch by these bytes, and waits for the answer, as long as `patience` says. Where somebody else waits for an answer it is asked
+    /// for after that one, but for this too it waits no longer.
     pub(crate) fn ask<R: Wait + Clock>(
         &self,
         rt: &R,
         batch: &[Record],
         bytes: Vec<u8>,
+        patience: Duration,
     ) -> ChainAnswer {
-        let mut exchange = self.exchange.lock(rt);
+        let exchange = self.exchange.lock(rt);
+        let (mut exchange, _result) = self
+            .heard
+            .wait_timeout_while(rt, exchange, patience, |held| held.is_taken());
         if let Some(answer) = exchange.ask(batch, bytes) {
             return answer;
         }
         self.asked.notify_one();
         let (mut exchange, _result) = self
             .heard
-            .wait_timeout_while(rt, exchange, self.patience, |held| held.is_waiting());
-        exchange.settle(batch)
+            .wait_timeout_while(rt, exchange, patience, |held| held.is_waiting());
+        let answer = exchange.settle(batch);
+        drop(exchange);
+        self.heard.notify_all();
+        answer
     }
 
     /// The next batch that is due, if one is.

@@ -90,14 +90,14 @@ impl<
         }
     }
 
-    /// Waits for a shared check, if one more worker of the port may wait. Says whether one was made.
+    /// Waits for a shared check, if one more worker of the port may wait with a lookup. Says whether one was made.
     fn wait_for_check(&self) -> bool {
-        if !self.waits.enter() {
+        if !self.waits.enter_lookup() {
             return false;
         }
         let within = Duration::from_millis(CHECKED_WITHIN);
         let checked = self.check.wait_for_one(self.rt, self.grown, within);
-        self.waits.leave();
+        self.waits.leave_lookup();
         checked
     }
 

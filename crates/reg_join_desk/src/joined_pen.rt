@@ -5,16 +5,15 @@ ghost use Rattle.reg_fold.specs.GiveAlike.{GiveAlike};
 ghost use Rattle.reg_topic.specs.Topic.{registry_of};
 ghost use Rattle.reg_shared.specs.Held.{base_of, topic_at};
 ghost use Rattle.reg_pen.specs.Pen.{IsPen};
-ghost use Rattle.reg_chain.specs.declared.chain.ChainAnswer.TheVariants.{Kept};
 ghost use Rattle.reg_join.specs.Ending.{Ends};
-ghost use Rattle.reg_join.specs.Joined.{IsJoined, batches_of};
-ghost use Rattle.reg_join.specs.Joining.{Checks, IsNotAsked};
+ghost use Rattle.reg_join.specs.Joined.{IsJoined};
+ghost use Rattle.reg_join.specs.Joining.{IsNotAsked};
 ghost use Rattle.reg_join.specs.Taking.{Takes, TellsTaken};
 
-use reg_chain::{Chain, ChainAnswer};
+use reg_chain::Chain;
 use reg_feed::{Copies, FeedName, FeedReader, NoPlace, Seen};
 use reg_fold::Registry;
-use reg_join::{JoinKeep, JoinSubmitted, Patience, TakenIn, check_chain, submit_joined, take_in};
+use reg_join::{JoinKeep, JoinSubmitted, Patience, TakenIn, submit_joined, take_in};
 use reg_leader::Command;
 use reg_levels::Judged;
 use reg_pen::{Pass, Pen};
@@ -96,17 +95,6 @@ impl<
         // Its contract says that it is a pen whose list is lawful.
         let _batches = self.pen.batches();
         submit_joined(alloc, &mut self.pen, pass, since, command, judged, patience)
-    }
-
-    /// Asks the chain whether something stands behind all that was told. Nothing of the list changes.
-    pub fn check(&mut self) -> ChainAnswer
-        ensures checks { Checks C.told C.answers self.old.keep result self.new.keep }
-        ensures same { self.new ≡ record self.old { keep = self.new.keep } }
-        ensures joined { IsJoined C.told self.new }
-        ensures own { IsNotAsked self.old.keep self.new.keep }
-        ensures kept { result ≡ Kept → C.told self.new.keep.chain ≡ batches_of self.new }
-    {
-        check_chain(&mut self.pen)
     }
 
     /// A registry that gives the same as the one over the published log. Takes no memory.

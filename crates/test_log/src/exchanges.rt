@@ -81,11 +81,9 @@ pub(crate) fn begin<R: Wait + Clock + Drop>(
     alloc: Global,
     patience: u64,
 ) -> Result<(Arc<AdapterLine, Global>, AdapterChain<R>), Fail> {
-    let line = Arc::new(
-        alloc,
-        AdapterLine::new(alloc, 5, Duration::from_millis(patience)),
-    )?;
-    let chain = AdapterChain::new(rt, alloc, Arc::try_clone(&line)?);
+    let line = Arc::new(alloc, AdapterLine::new(alloc, 5))?;
+    let patience = Duration::from_millis(patience);
+    let chain = AdapterChain::new(rt, alloc, Arc::try_clone(&line)?, patience);
     Ok((line, chain))
 }
 
@@ -171,6 +169,65 @@ fn a_check_is_crossed(rt: HostRuntime) -> Result<(), Fail> {
     assert_eq!(rt; next_offset(&mut chain)?, Some(5));
     let (answer, _bytes) = exchange(&rt, alloc, &mut chain, &line, &[], "kept\n");
     assert_eq!(rt; answer, ChainAnswer::Kept);
+    Ok(())
+}
+
+/// Tells a line that each of two requests is kept, one after the other.
+fn keep_two<R: Wait + Clock>(rt: &R, alloc: Global, line: &AdapterLine) -> io::Result<()> {
+    for _ in 0..2 {
+        let _bytes = line.wait_for_request(rt);
+        tell(rt, alloc, line, "kept\n")?;
+    }
+    Ok(())
+}
+
+#[test]
+fn a_check_and_a_batch_are_asked_for_in_turn(rt: HostRuntime) -> Result<(), Fail> {
+    let alloc = rt.alloc();
+    let (line, mut chain) = begin(rt, alloc, LONG)?;
+    let patience = Duration::from_millis(LONG);
+    let mut other = AdapterChain::new(rt, alloc, Arc::try_clone(&line)?, patience);
+    let shared: &AdapterLine = &line;
+    let batch = [noop(5)];
+    let (checked, (kept, told)) = thread::join(
+        &rt,
+        || other.append(&[]),
+        || {
+            thread::join(
+                &rt,
+                || chain.append(&batch),
+                || keep_two(&rt, alloc, shared),
+            )
+        },
+    );
+    assert!(rt; told.is_ok());
+    assert_eq!(rt; checked, ChainAnswer::Kept);
+    assert_eq!(rt; kept, ChainAnswer::Kept);
+    Ok(())
+}
+
+#[test]
+fn a_batch_behind_a_check_without_an_answer_is_declined(rt: HostRuntime) -> Result<(), Fail> {
+    let alloc = rt.alloc();
+    let (line, mut chain) = begin(rt, alloc, LONG)?;
+    let patience = Duration::from_millis(SHORT);
+    let mut other = AdapterChain::new(rt, alloc, Arc::try_clone(&line)?, patience);
+    let shared: &AdapterLine = &line;
+    let batch = [noop(5)];
+    let (checked, answer) = thread::join(
+        &rt,
+        || other.append(&[]),
+        || {
+            let _bytes = shared.wait_for_request(&rt);
+            chain.append(&batch)
+        },
+    );
+    assert_eq!(rt; checked, ChainAnswer::Declined);
+    assert_eq!(rt;
+        answer,
+        ChainAnswer::Declined,
+        "it waited no longer than the check did"
+    );
     Ok(())
 }
 
