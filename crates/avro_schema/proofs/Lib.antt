@@ -23,4 +23,5 @@ pub mod DefaultLemmas
 pub mod NormalLemmas
 pub mod NoSchema
 pub mod ReadsBack
+pub mod Readings
 pub mod NormalMeaning

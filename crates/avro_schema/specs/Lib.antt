@@ -6,6 +6,7 @@ pub mod Kinds
 pub mod Faults
 pub mod Schema
 pub mod Defaults
+pub mod Reading
 pub mod Required
 pub mod Sound
 pub mod Plain

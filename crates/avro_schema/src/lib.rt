@@ -20,6 +20,7 @@ mod normal;
 mod read_types;
 mod required;
 mod schema;
+mod schema_text;
 mod symbols;
 mod word;
 
@@ -29,3 +30,4 @@ pub use laws::{normal_texts_read_back, schemas_are_sound};
 pub use limits::{SCHEMA_NODES_LIMIT, SIZE_LIMIT, TEXT_LIMIT, schema_limits_are_as_written};
 pub use node::{Field, FullName, Node, NodeId, Primitive};
 pub use schema::Schema;
+pub use schema_text::{KnownNormal, SchemaReading, SchemaText};

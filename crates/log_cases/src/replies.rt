@@ -72,6 +72,7 @@ impl Form for Replies {
             "ask" => self.adapter.ask(false, moment_in(rest)?),
             "hear" => self.hear(rest)?,
             "told" => self.adapter.hear_batch(),
+            "join" => self.adapter.join(moment_in(rest)?),
             "batches" => return Ok(self.batch_counts(alloc)?),
             "checks" => return Ok(self.check_counts(alloc)?),
             "last" => return Ok(format!(in alloc; "{}", self.adapter.last.value())?),

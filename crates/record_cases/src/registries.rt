@@ -53,10 +53,10 @@ fn fill(
     other: Option<&Registry>,
 ) -> Made<()> {
     if !is_grown {
-        return registry.apply_all_beside(records, other);
+        return registry.apply_all_beside(records, other, None);
     }
     for record in records {
-        registry.apply_beside(record, other)?;
+        registry.apply_beside(record, other, None)?;
     }
     Ok(())
 }

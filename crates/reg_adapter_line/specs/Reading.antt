@@ -17,6 +17,8 @@ EndsAs left messages (ends.Fault error) = IsAtEnd left × EndsWithin messages er
 EndsAs left messages (ends.ReadFault kind) = kind ≢ Interrupted
 EndsAs left messages ends.NobodyAsked = ⊥
 EndsAs left messages (ends.Output kind) = ⊥
+EndsAs left messages ends.Unfinished = ⊥
+EndsAs left messages ends.Unread = ⊥
 
 -- bytes were taken behind the text, or none were
 abbrev pub TakesPiece : Option (List ℕ) → Option (List ℕ) → List ℕ → List AdapterMessage → Messages → Messages → Piece → Type 0

@@ -15,4 +15,8 @@ pub enum LineEnd {
     NobodyAsked,
     /// A request can't be written.
     Output(ErrorKind),
+    /// The rest of a message didn't come for 30 s.
+    Unfinished,
+    /// A request wasn't read for 30 s.
+    Unread,
 }

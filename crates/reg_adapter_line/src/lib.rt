@@ -23,6 +23,7 @@ mod line;
 mod overhearing;
 mod reading;
 mod sending;
+mod stalls;
 mod told;
 
 pub use chain::AdapterChain;

@@ -3,6 +3,7 @@ ghost use Rattle.reg_adapter_line.specs.Answers.{IsRefusal};
 
 use crate::end::LineEnd;
 use crate::exchange::Exchange;
+use crate::stalls::Stalls;
 use base_text::Listed;
 use reg_adapter::AdapterMessage;
 use reg_adapter_chain::TellError;
@@ -28,6 +29,7 @@ pub struct AdapterLine {
     /// A batch was handed out, or it is over.
     taken: Condvar,
     grown: Parker,
+    pub(crate) stalls: Stalls,
     is_ready: AtomicBool,
     has_due: AtomicBool,
     is_over: AtomicBool,
@@ -42,6 +44,7 @@ impl AdapterLine {
             asked: Condvar::new(),
             taken: Condvar::new(),
             grown: Parker::new(),
+            stalls: Stalls::new(),
             is_ready: AtomicBool::new(false),
             has_due: AtomicBool::new(false),
             is_over: AtomicBool::new(false),
@@ -73,10 +76,20 @@ impl AdapterLine {
         self.exchange.lock(rt).end
     }
 
-    /// Waits until something is due, `ready` was read, or it is over.
-    pub fn wait_for_news<R: Wait>(&self, rt: &R) {
+    /// Waits until something is due, `ready` was read, or it is over, but no longer than that. `false` where the time is up.
+    pub fn wait_for_news<R: Wait + Clock>(&self, rt: &R, within: Duration) -> bool {
         let exchange = self.exchange.lock(rt);
-        let _exchange = self.heard.wait_while(rt, exchange, |held| held.is_silent());
+        let (exchange, _result) = self
+            .heard
+            .wait_timeout_while(rt, exchange, within, |held| held.is_silent());
+        !exchange.is_silent()
+    }
+
+    /// Ends it where a message isn't finished, or a request isn't read, within 30 s.
+    pub fn end_stalls<R: Wait + Clock>(&self, rt: &R) {
+        if let Some(end) = self.stalls.late(rt) {
+            self.end_with(rt, end);
+        }
     }
 
     /// What a batch is answered that can't be asked for.

@@ -44,7 +44,13 @@ pub fn read_messages<B: BufRead, R: Wait + Clock, H: Overhear>(
             break;
         }
         match take_piece(reader, &mut messages) {
-            Piece::Bytes => tell_all(rt, &mut messages, line, overhear),
+            Piece::Bytes => {
+                let before = line.stalls.pause(rt);
+                let has_told = tell_all(rt, &mut messages, line, overhear);
+                if messages.end().is_err() {
+                    line.stalls.go_on(rt, before, !has_told);
+                }
+            }
             Piece::Nothing => {}
             Piece::OutOfMemory => thread::sleep(rt, Duration::from_millis(AGAIN)),
             Piece::End(end) => line.end_with(rt, end),
@@ -88,13 +94,14 @@ fn end_of(messages: &Messages) -> LineEnd
     }
 }
 
-/// Tells the line of each message that is whole, which is overheard before.
+/// Tells the line of each message that is whole, which is overheard before. Says whether there was one.
 pub fn tell_all<R: Wait + Clock, H: Overhear>(
     rt: &R,
     messages: &mut Messages,
     line: &AdapterLine,
     overhear: &H,
-) {
+) -> bool {
+    let mut has_told = false;
     for _ in rt.forever() {
         if line.is_over() {
             break;
@@ -103,10 +110,12 @@ pub fn tell_all<R: Wait + Clock, H: Overhear>(
             Ok(Some(told)) => {
                 overhear.heard(heard_in(&told));
                 line.tell(rt, told);
+                has_told = true;
             }
             Ok(None) => break,
             Err(MessageError::OutOfMemory) => thread::sleep(rt, Duration::from_millis(AGAIN)),
             Err(error) => line.end_with(rt, LineEnd::Fault(error)),
         }
     }
+    has_told
 }

@@ -4,10 +4,11 @@ use crate::line::AdapterLine;
 use crate::overhearing::{Overhear, asked_by};
 use std::io::{self, Write};
 use std::sync::Wait;
+use std::time::Clock;
 
 /// Writes each request whole, one after the other, until the line is over. Each is overheard before it is written. A fault of the writer ends
 /// the line.
-pub fn send_requests<W: Write, R: Wait, H: Overhear>(
+pub fn send_requests<W: Write, R: Wait + Clock, H: Overhear>(
     rt: &R,
     writer: &mut W,
     line: &AdapterLine,
@@ -18,9 +19,11 @@ pub fn send_requests<W: Write, R: Wait, H: Overhear>(
             break;
         };
         overhear.asked(asked_by(&bytes));
+        line.stalls.begin_request(rt);
         if let Err(error) = send(writer, &bytes) {
             line.end_with(rt, LineEnd::Output(error.kind()));
         }
+        line.stalls.end_request(rt);
     }
 }
 

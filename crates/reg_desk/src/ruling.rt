@@ -30,6 +30,7 @@ impl Ruling {
         ensures { IsPrefix view.old view.new }
     {
         let Ok(Some(case)) = view.case(command) else {
+            read_ahead(command);
             return None;
         };
         Ruling::on(case, judge)
@@ -37,10 +38,18 @@ impl Ruling {
 
     /// The judgement of that case.
     pub fn on(case: Case, judge: &mut Judge) -> Option<Ruling> {
+        let mut case = case;
         match case.judged(judge) {
             Ok(judged) => Some(Ruling { case, judged }),
             Err(_) => None,
         }
+    }
+}
+
+/// Reads the schema that a command has, if it wasn't read, so that this isn't done while the pen is held.
+fn read_ahead(command: &Command) {
+    if let Some(text) = command.schema() {
+        let _reading = text.reading();
     }
 }
 

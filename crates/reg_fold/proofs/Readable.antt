@@ -1,6 +1,6 @@
 -- Each entry's text is a schema's, and its normal text is that schema's.
 use Rattle.std.proofs.Common.{◌≡◌, ℕ, ◌<◌, zero, suc, true, List, [], ◌∷◌, length, get_or, map, is_some}
-use Rattle.std.proofs.Common.{option_map, Option, Some, None, refl, sym, ap, subst, ◌∙◌, arith}
+use Rattle.std.proofs.Common.{option_and_then, option_map, Option, Some, None, refl, sym, ap, subst, ◌∙◌, arith}
 use Rattle.std.proofs.lemmas.Bool.{false≢true}
 use Rattle.std.specs.FinMap as finmap
 use Rattle.std.specs.List.{AllByRecursion}
@@ -10,7 +10,9 @@ use Rattle.reg_values.specs.reg_records.declared.record.Record.{Record}
 use Rattle.reg_set.specs.Records.{Records}
 use Rattle.reg_entries.specs.EntryOrder.{Place}
 use Rattle.reg_entries.specs.declared.entry.Entry.{Entry}
-use Rattle.reg_fold.specs.Entries.{EntriesAreRead, entries, entry_of, entry_map}
+use Rattle.reg_fold.specs.Entries.{EntriesAreRead, covered_in, entries, entry_of, entry_map}
+use Rattle.reg_fold.specs.Own.{own_entry_of}
+use Rattle.reg_fold.proofs.Own.{own_some}
 use Rattle.reg_fold.proofs.Placed.{entry_map-each}
 use Rattle.reg_fold.proofs.Values.{entry_of-shown, entry_of-under}
 
@@ -25,6 +27,11 @@ meaning_of (Some meaning) is = refl
 -- the entry of a record is read
 entry_of-read : (rs : Records) (r : Record) (e : Entry) → entry_of rs r ≡ Some e → IsRead e
 entry_of-read rs r e is = meaning_of (schema_of e.text) (entry_of-under rs r e is).1 ∙ ap Some (sym (entry_of-shown rs r e is).normal)
+
+-- so is the one that a record gives by itself
+pub own_read : (rs : Records) (o : Option Record) (e : Entry) → option_and_then own_entry_of o ≡ Some e → IsRead e
+own_read rs None e gives = absurd (cc)
+own_read rs (Some r) e gives = entry_of-read rs r (covered_in rs e) (own_some rs r e gives)
 
 -- what holds of each entry that is kept holds of one among them
 pub of_kept : (P : Entry → Type 0) (es : List (Place × Entry)) → AllByRecursion (λ kept. P kept.1) es

@@ -19,6 +19,7 @@ use crate::settings::put_own;
 use crate::spots::{Spot, forget, forget_elsewhere, spot_of};
 use reg_entries::{Entries, Entry, SoftDelete};
 use reg_set::{LastRecords, last_is_greatest, last_records_are_enough, records_are_ordered};
+use reg_values::avro_schema::{KnownNormal, SchemaText};
 use reg_values::base_text::Text;
 use reg_values::reg_level_names::Level;
 use reg_values::reg_records::{Key, Record};
@@ -86,9 +87,14 @@ impl Index {
         }
     }
 
-    /// Adds a record, which may have been read for the other index. The only error is out of memory; the
-    /// last records are then as they were.
-    pub(crate) fn apply(&mut self, given: &Record, other: Option<&Index>) -> Result<(), AllocError>
+    /// Adds a record, which may have been read for the other index, or whose schema may be the known one. The only error is out of
+    /// memory; the last records are then as they were.
+    pub(crate) fn apply(
+        &mut self,
+        given: &Record,
+        other: Option<&Index>,
+        known: Option<&SchemaText>,
+    ) -> Result<(), AllocError>
         requires kept { IsKept self.old }
         requires other { IfSome other (λ o. IsKept o.now) }
         ensures { AddsOnOk self.old given.now result self.new }
@@ -97,7 +103,9 @@ impl Index {
             return Ok(());
         }
         match &given.key {
-            Key::Schema { subject, version } => self.apply_version(given, subject, *version, other),
+            Key::Schema { subject, version } => {
+                self.apply_version(given, subject, *version, other, known)
+            }
             Key::DeleteSubject(subject) => self.apply_delete(given, subject),
             Key::Config(scope) => self.apply_config(given, scope),
             Key::Mode(scope) => self.apply_mode(given, scope),
@@ -113,6 +121,7 @@ impl Index {
         subject: &Text,
         version: u32,
         other: Option<&Index>,
+        known: Option<&SchemaText>,
     ) -> Result<(), AllocError>
         requires news { IsNewsTo given.now self.old }
         requires of_key { given.now.key ≡ keys.Schema subject.now version }
@@ -120,10 +129,25 @@ impl Index {
         ensures { AddsOnOk self.old given.now result self.new }
     {
         let place = (subject.clone()?, version);
-        match entry_of(self.alloc, given, &place, other)? {
+        let known = self.known_at(&place, known);
+        match entry_of(self.alloc, given, &place, other, known)? {
             Some(entry) => self.put_entry(given, place, entry),
             None if given.value.is_some() => self.put_unread(given, place),
             None => self.put_tombstone(given, place),
+        }
+    }
+
+    /// A text whose normal text is known: that of the entry which stands at the place, else that of the schema which was read.
+    fn known_at<'a>(
+        &'a self,
+        place: &(Text, u32),
+        known: Option<&'a SchemaText>,
+    ) -> Option<KnownNormal<'a>>
+        requires { IsKept self.now }
+    {
+        match self.entries.at(place) {
+            Some(entry) => { Some(KnownNormal::new(&entry.text, &entry.normal)) }
+            None => known?.known(),
         }
     }
 
@@ -305,12 +329,13 @@ impl Index {
 }
 
 /// The entry that a version's record gives by itself: the other index's, where the record is the last of
-/// its key there too, and else what is read in it. The only error is out of memory.
+/// its key there too, and else what is read in it, where its schema isn't known. The only error is out of memory.
 fn entry_of(
     alloc: Global,
     given: &Record,
     place: &(Text, u32),
     other: Option<&Index>,
+    known: Option<KnownNormal<'_>>,
 ) -> Result<Option<Entry>, AllocError>
     requires of_key { given.now.key ≡ keys.Schema place.now.0 place.now.1 }
     requires other { IfSome other (λ o. IsKept o.now) }
@@ -318,7 +343,7 @@ fn entry_of(
 {
     match other {
         Some(other) if other.last.contains(given) => other.entry_at(given, place),
-        Some(_) | None => own_entry_of(alloc, given),
+        Some(_) | None => own_entry_of(alloc, given, known),
     }
 }
 

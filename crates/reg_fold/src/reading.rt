@@ -7,19 +7,23 @@ ghost use Rattle.reg_fold.specs.Own.{own_entry_of};
 ghost use Rattle.reg_fold.specs.SoftDeletes.{delete_of};
 
 use reg_entries::{Entry, SoftDelete};
-use reg_values::avro_schema::Schema;
+use reg_values::avro_schema::KnownNormal;
 use reg_values::base_text::Text;
 use reg_values::reg_level_names::Level;
 use reg_values::reg_records::{Record, Value};
 use reg_values::{Decoded, decode, decode_value};
 use std::alloc::{AllocError, Global};
 
-/// The entry that a record gives by itself, if it has a version's value, which is read once.
+/// The entry that a record gives by itself, if it has a version's value. A schema's text whose normal text is known isn't read.
 #[tactic(auto, unfolding(crate::specs::Own::own_entry_of))]
-pub(crate) fn own_entry_of(alloc: Global, given: &Record) -> Result<Option<Entry>, AllocError>
+pub(crate) fn own_entry_of(
+    alloc: Global,
+    given: &Record,
+    known: Option<KnownNormal<'_>>,
+) -> Result<Option<Entry>, AllocError>
     ensures { IfOk result (λ entry. entry ≡ own_entry_of given.now) }
 {
-    let Some(Decoded { value, schema }) = decode(alloc, given)? else {
+    let Some(Decoded { value, normal }) = decode(alloc, given, known)? else {
         return Ok(None);
     };
     match value {
@@ -30,13 +34,12 @@ pub(crate) fn own_entry_of(alloc: Global, given: &Record) -> Result<Option<Entry
             schema: text,
             deleted,
         } => {
-            let normal = normal_of(alloc, &schema, &text)?;
             Ok(Some(Entry {
                 subject,
                 version,
                 id,
                 text,
-                normal,
+                normal: or_empty(normal),
                 offset: given.offset,
                 soft: deleted,
             }))
@@ -49,18 +52,13 @@ pub(crate) fn own_entry_of(alloc: Global, given: &Record) -> Result<Option<Entry
     }
 }
 
-/// The normal text of a schema, which is the schema's own text where the two are equal; without one
-/// no text.
-///
-/// It is a copy, made after all that reading the schema took was given back: the first one stands in
-/// the midst of that, and would keep the memory round it from being used again.
-fn normal_of(alloc: Global, schema: &Option<Schema>, text: &Text) -> Result<Text, AllocError>
-    ensures { IfOk result (λ normal. normal ≡ option_map_or (λ meaning. meaning.normal_text) schema.now []) }
+/// That text, or the empty one.
+fn or_empty(text: Option<Text>) -> Text
+    ensures { result ≡ option_map_or (λ text. text) text [] }
 {
-    match schema {
-        Some(schema) if schema.normal() == text => text.clone(),
-        Some(schema) => Text::copy_of(alloc, schema.normal().as_str()),
-        None => Ok(Text::empty()),
+    match text {
+        Some(text) => text,
+        None => Text::empty(),
     }
 }
 

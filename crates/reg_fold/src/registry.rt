@@ -27,6 +27,7 @@ use reg_set::{
     RecordSet, last_is_greatest, last_records_are_enough, last_records_of_unions,
     records_are_ordered,
 };
+use reg_values::avro_schema::SchemaText;
 use reg_values::base_text::Text;
 use reg_values::reg_level_names::Level;
 use reg_values::reg_records::{Key, Record};
@@ -141,15 +142,17 @@ impl Registry {
             → self.new ≡ last_records (set.insert whole given.now)) }
         ensures refused { OnErr result (self.new ≡ self.old) }
     {
-        self.apply_beside(given, None)
+        self.apply_beside(given, None, None)
     }
 
-    /// Adds a record, as `apply` does, whatever the other registry is. Where the record is the last of its
-    /// key there too, it isn't read again: what it gives is taken from there.
+    /// Adds a record, as `apply` does, whatever the other registry and the known text are. Where the record is the last of its
+    /// key there too, it isn't read again: what it gives is taken from there. A schema that was read as the known text isn't read again
+    /// either.
     pub fn apply_beside(
         &mut self,
         given: &Record,
         other: Option<&Registry>,
+        known: Option<&SchemaText>,
     ) -> Result<(), AllocError>
         ensures added { OnOk result (self.new ≡ last_records (set.insert self.old given.now)) }
         ensures whole { OnOk result ((whole : Records) → self.old ≡ last_records whole
@@ -158,8 +161,8 @@ impl Registry {
     {
         last_records_of_unions();
         match other {
-            Some(other) => self.index.apply(given, Some(&other.index)),
-            None => self.index.apply(given, None),
+            Some(other) => self.index.apply(given, Some(&other.index), known),
+            None => self.index.apply(given, None, known),
         }
     }
 
@@ -176,15 +179,16 @@ impl Registry {
             → self.new ≡ last_records (set.union whole (set.from_list records.now))) }
         ensures refused { OnErr result (self.new ≡ self.old) }
     {
-        self.apply_all_beside(records, None)
+        self.apply_all_beside(records, None, None)
     }
 
-    /// Adds all records or none, as `apply_all` does, whatever the other registry is. A record that is the
-    /// last of its key there too isn't read again.
+    /// Adds all records or none, as `apply_all` does, whatever the other registry and the known text are. A record that is the
+    /// last of its key there too isn't read again, and neither is a schema that was read as the known text.
     pub fn apply_all_beside(
         &mut self,
         records: &[Record],
         other: Option<&Registry>,
+        known: Option<&SchemaText>,
     ) -> Result<(), AllocError>
         ensures added { OnOk result (self.new
             ≡ last_records (set.union self.old (set.from_list records.now))) }
@@ -197,9 +201,9 @@ impl Registry {
             [] => self.apply_none(),
             [first, others @ ..] => {
                 if self.are_tombstones(others) {
-                    self.apply_before(first, others, other)
+                    self.apply_before(first, others, other, known)
                 } else {
-                    self.apply_to_copy(records, other)
+                    self.apply_to_copy(records, other, known)
                 }
             }
         }
@@ -237,6 +241,7 @@ impl Registry {
         first: &Record,
         tombstones: &[Record],
         other: Option<&Registry>,
+        known: Option<&SchemaText>,
     ) -> Result<(), AllocError>
         requires { list_all (is_tombstone self.old) tombstones.now ≡ true }
         ensures added { OnOk result (self.new
@@ -248,7 +253,7 @@ impl Registry {
         last_records_are_enough();
         last_records_of_unions();
         let copies = copies_of(self.index.alloc, tombstones)?;
-        self.apply_beside(first, other)?;
+        self.apply_beside(first, other, known)?;
         self.bury_all(copies);
         Ok(())
     }
@@ -285,26 +290,32 @@ impl Registry {
         &mut self,
         records: &[Record],
         other: Option<&Registry>,
+        known: Option<&SchemaText>,
     ) -> Result<(), AllocError>
         ensures added { OnOk result (self.new
             ≡ last_records (set.union self.old (set.from_list records.now))) }
         ensures refused { OnErr result (self.new ≡ self.old) }
     {
         let mut next = self.clone()?;
-        next.apply_each(records, other)?;
+        next.apply_each(records, other, known)?;
         *self = next;
         Ok(())
     }
 
     /// Adds all records. The only error is out of memory; some may then have been added.
-    fn apply_each(&mut self, records: &[Record], other: Option<&Registry>) -> Result<(), AllocError>
+    fn apply_each(
+        &mut self,
+        records: &[Record],
+        other: Option<&Registry>,
+        known: Option<&SchemaText>,
+    ) -> Result<(), AllocError>
         ensures { OnOk result (self.new
             ≡ last_records (set.union self.old (set.from_list records.now))) }
     {
         records_are_ordered();
         self.index.last.is_compact();
         for record in records {
-            self.apply_beside(record, other)?;
+            self.apply_beside(record, other, known)?;
         }
         Ok(())
     }

@@ -67,6 +67,15 @@ impl Rounds {
         self.over = self.over.max(round);
     }
 
+    /// Whether none was begun for that long. Where the clock can't be read, none is due.
+    pub(crate) fn is_due(&self, now: Option<Instant>, every: Duration) -> bool {
+        match (self.since, now) {
+            (Some(since), Some(now)) => now.duration_since(since) >= every,
+            (None, Some(_)) => true,
+            (_, None) => false,
+        }
+    }
+
     /// How long it is until the next one may be begun; nothing where the clock couldn't be read.
     pub(crate) fn pause(&self, now: Option<Instant>) -> Duration {
         match (self.since, now) {

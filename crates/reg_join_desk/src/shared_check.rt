@@ -6,8 +6,8 @@ use std::thread::Parker;
 use std::time::{Clock, Duration, Instant};
 
 /// Checks that lookups share: a lookup that didn't find what others may just have written waits for one, and one thread makes them, 50 a
-/// second at most. However many lookups wait, one check that was begun after they came serves them all. A desk whose command found that
-/// nothing is taken in any more says so here, too.
+/// second at most. However many lookups wait, one check that was begun after they came serves them all. One is made by itself where none was
+/// for some time, so that it shows whether the store answers. A desk whose command found that nothing is taken in any more says so here, too.
 #[derive(Drop)]
 pub struct SharedCheck {
     wanted: AtomicBool,
@@ -44,17 +44,16 @@ impl SharedCheck {
         self.wanted.load(Ordering::SeqCst)
     }
 
-    /// Begins a check, if one is wanted; its number. Whoever makes it then takes in what was told, asks the chain, shows the nodes what
-    /// came, and calls `done`.
-    pub fn begin<R: Wait + Clock>(&self, rt: &R) -> Option<u64> {
-        if !self.is_wanted() {
-            return None;
-        }
+    /// Begins a check, if one is wanted, or none was begun for that long; its number. Whoever makes it then takes in what was told, asks
+    /// the chain, shows the nodes what came, and calls `done`.
+    pub fn begin<R: Wait + Clock>(&self, rt: &R, every: Duration) -> Option<u64> {
+        let now = Instant::now(rt).ok();
         let mut rounds = self.rounds.lock(rt);
-        if !self.wanted.swap(false, Ordering::SeqCst) {
+        let is_wanted = self.wanted.swap(false, Ordering::SeqCst);
+        if !is_wanted && !rounds.is_due(now, every) {
             return None;
         }
-        let round = rounds.begin(Instant::now(rt).ok());
+        let round = rounds.begin(now);
         self.turned.notify_all();
         Some(round)
     }

@@ -39,6 +39,8 @@ impl fmt::Display for Told {
             LineEnd::ReadFault(kind) => write!(f, "ReadFault: {kind:?}"),
             LineEnd::NobodyAsked => write!(f, "an answer that nobody asked for"),
             LineEnd::Output(kind) => write!(f, "WriteFault: {kind:?}"),
+            LineEnd::Unfinished => write!(f, "a message wasn't finished within 30 s"),
+            LineEnd::Unread => write!(f, "a request wasn't read within 30 s"),
         }
     }
 }

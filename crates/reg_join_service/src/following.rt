@@ -12,7 +12,10 @@ use reg_topic::Item;
 use std::alloc::AllocError;
 use std::sync::{Mutex, Wait};
 use std::thread::Parker;
-use std::time::Clock;
+use std::time::{Clock, Duration};
+
+/// A check is made where none was for so long, in seconds.
+const CHECK_EVERY: u64 = 5;
 
 /// Takes in what is told, and makes the checks that lookups want. What is taken in is published by the pen, whose list all ports show.
 #[derive(Drop)]
@@ -90,7 +93,8 @@ impl<
     W: Watch,
 > Follow for Following<'a, N, S, C, R, W> {
     fn follow(&self) {
-        let round = self.check.begin(self.rt);
+        self.line.end_stalls(self.rt);
+        let round = self.check.begin(self.rt, Duration::from_secs(CHECK_EVERY));
         if round.is_some() || self.line.has_due() || self.check.has_stopped() {
             self.take(round.is_some());
         }

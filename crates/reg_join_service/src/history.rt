@@ -11,7 +11,10 @@ use reg_service::ServiceError;
 use reg_shared::Shared;
 use reg_topic::Item;
 use std::sync::Wait;
-use std::time::Clock;
+use std::time::{Clock, Duration};
+
+/// Where an adapter says nothing for so long before `ready`, in seconds, that is said.
+const SILENT_FOR: u64 = 30;
 
 /// Takes in all that is told before `ready`, while nobody else has the pen. Where something is no command's, the rest is left. Fails where
 /// memory is refused, and where it is over before `ready`.
@@ -28,6 +31,7 @@ pub(crate) fn take_history<
     pen: &mut JoinedPen<N, S, C, R>,
     watch: &W,
 ) -> Result<(), JoinError> {
+    let mut seconds: u64 = 0;
     for _news in rt.forever() {
         // All that is told before `ready`, or before the end, is due once that was read.
         let (is_ready, is_over) = (line.is_ready(), line.is_over());
@@ -38,9 +42,24 @@ pub(crate) fn take_history<
         if is_over {
             return Err(JoinError::NotReady(end_of(rt, line)));
         }
-        line.wait_for_news(rt);
+        if !line.wait_for_news(rt, Duration::from_secs(1)) {
+            seconds = wait_on(rt, line, watch, seconds);
+        } else {
+            seconds = 0;
+        }
     }
     unreachable!()
+}
+
+/// One more second went by without a word; how many did since the last that was said of it.
+fn wait_on<R: Wait + Clock, W: Watch>(rt: &R, line: &AdapterLine, watch: &W, seconds: u64) -> u64 {
+    line.end_stalls(rt);
+    let seconds = seconds.saturating_add(1);
+    if seconds < SILENT_FOR {
+        return seconds;
+    }
+    watch.silent();
+    0
 }
 
 /// Takes in all that was told.

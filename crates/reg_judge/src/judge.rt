@@ -1,5 +1,6 @@
 // A judge, and what it answers.
-ghost use Rattle.std.specs.Prelude.{◌≡◌, ◌∷◌, None, IfOk, IfErr, OnOk, OnErr, map};
+ghost use Rattle.std.specs.Prelude.{◌≡◌, ◌∷◌, None, Some, IfOk, IfErr, IfSome, OnOk, OnErr, map};
+ghost use Rattle.avro_resolve.specs.avro_schema.Schema.{schema_of};
 ghost use Rattle.reg_levels.specs.RequiredPairs.{HasRisingVersions};
 ghost use Rattle.reg_levels.specs.RequiredPairs as required;
 ghost use Rattle.reg_levels.specs.Judgement.{IsTrueVerdict, IsMadeOf, first_unread};
@@ -11,8 +12,9 @@ ghost use Rattle.reg_judge.specs.Judge.{HasUsed, IsCapacity, IsJudgeRefusal, Kee
 use crate::judge_error::JudgeError;
 use crate::judging::{Run, judge_each};
 use crate::limits::KEPT_LIMIT;
-use crate::schemas::{Schemas, keep, keep_olds, take, take_olds};
+use crate::schemas::{Schemas, keep, keep_olds, take_given, take_olds};
 use crate::verdicts::{Verdicts, keep_all};
+use avro_resolve::avro_schema::Schema;
 use avro_resolve::base_text::Text;
 use avro_resolve::schemas_have_one_verdict;
 use lru::LruCache;
@@ -104,9 +106,59 @@ impl Judge {
         ensures unchanged { OnErr result (self.new ≡ record self.old { texts = self.new.texts }) }
         ensures taken_out { OnErr result (LosesTexts (new_text.now ∷ map (λ old. old.1.now) olds.now) self.old.texts self.new.texts) }
     {
+        self.check_with(level, new_text, None, olds)
+    }
+
+    /// The same, where each old text is known to be a schema's: only those are read, or taken from what is kept, that
+    /// the level looks at. The new text isn't read where its schema is given.
+    pub fn check_read(
+        &mut self,
+        level: Level,
+        new_text: &str,
+        new: Option<Schema>,
+        olds: &[(u32, &str)],
+    ) -> Result<LevelVerdict, JudgedError>
+        requires new { IfSome new (λ schema. schema_of new_text.now ≡ Some schema) }
+        requires rising { HasRisingVersions olds.now }
+        requires read { first_unread (map (λ old. (old.0, old.1.now)) olds.now) ≡ None }
+        ensures verdict { IfOk result (IsTrueVerdict level new_text.now (map (λ old. (old.0, old.1.now)) olds.now)) }
+        ensures refused { IfErr result (IsJudgedRefusal new_text.now (map (λ old. (old.0, old.1.now)) olds.now)) }
+        ensures capacities { self.new.capacities ≡ self.old.capacities }
+        ensures used { OnOk result (HasUsed self.old.capacities.verdicts
+            (text_pairs level new_text.now (map (λ old. (old.0, old.1.now)) olds.now)) self.old.pairs self.new.pairs self.new.kept_all) }
+        ensures schemas { OnOk result (KeepsSchemas self.old.capacities.schemas new_text.now
+            (map (λ old. old.1.now) (required.looked_at level olds.now)) self.old.texts self.new.texts) }
+        ensures unchanged { OnErr result (self.new ≡ record self.old { texts = self.new.texts }) }
+        ensures taken_out { OnErr result (LosesTexts (new_text.now ∷ map (λ old. old.1.now) (required.looked_at level olds.now))
+            self.old.texts self.new.texts) }
+    {
+        self.check_with(level, new_text, new, looked_at(level, olds))
+    }
+
+    /// Whether the new text meets the level, as `check` has it; its schema may be given.
+    fn check_with(
+        &mut self,
+        level: Level,
+        new_text: &str,
+        new: Option<Schema>,
+        olds: &[(u32, &str)],
+    ) -> Result<LevelVerdict, JudgedError>
+        requires new { IfSome new (λ schema. schema_of new_text.now ≡ Some schema) }
+        requires rising { HasRisingVersions olds.now }
+        ensures verdict { IfOk result (IsTrueVerdict level new_text.now (map (λ old. (old.0, old.1.now)) olds.now)) }
+        ensures only { IfOk result (λ v. (u : Verdict) → IsTrueVerdict level new_text.now (map (λ old. (old.0, old.1.now)) olds.now) u → u ≡ v) }
+        ensures refused { IfErr result (IsJudgedRefusal new_text.now (map (λ old. (old.0, old.1.now)) olds.now)) }
+        ensures capacities { self.new.capacities ≡ self.old.capacities }
+        ensures used { OnOk result (HasUsed self.old.capacities.verdicts
+            (text_pairs level new_text.now (map (λ old. (old.0, old.1.now)) olds.now)) self.old.pairs self.new.pairs self.new.kept_all) }
+        ensures schemas { OnOk result
+            (KeepsSchemas self.old.capacities.schemas new_text.now (map (λ old. old.1.now) olds.now) self.old.texts self.new.texts) }
+        ensures unchanged { OnErr result (self.new ≡ record self.old { texts = self.new.texts }) }
+        ensures taken_out { OnErr result (LosesTexts (new_text.now ∷ map (λ old. old.1.now) olds.now) self.old.texts self.new.texts) }
+    {
         schemas_have_one_verdict();
         level_verdicts_are_single();
-        let Some(new) = take(self.alloc, &mut self.schemas, new_text)? else {
+        let Some(new) = take_given(self.alloc, &mut self.schemas, new_text, new)? else {
             return Err(JudgedError::NewText);
         };
         let olds = take_olds(self.alloc, &mut self.schemas, olds)?;
@@ -121,30 +173,6 @@ impl Judge {
         keep(&mut self.schemas, new);
         self.kept_all = keep_all(&mut self.verdicts, used);
         Ok(verdict)
-    }
-
-    /// The same, where each old text is known to be a schema's: only those are read, or taken from what is kept, that
-    /// the level looks at.
-    pub fn check_read(
-        &mut self,
-        level: Level,
-        new_text: &str,
-        olds: &[(u32, &str)],
-    ) -> Result<LevelVerdict, JudgedError>
-        requires rising { HasRisingVersions olds.now }
-        requires read { first_unread (map (λ old. (old.0, old.1.now)) olds.now) ≡ None }
-        ensures verdict { IfOk result (IsTrueVerdict level new_text.now (map (λ old. (old.0, old.1.now)) olds.now)) }
-        ensures refused { IfErr result (IsJudgedRefusal new_text.now (map (λ old. (old.0, old.1.now)) olds.now)) }
-        ensures capacities { self.new.capacities ≡ self.old.capacities }
-        ensures used { OnOk result (HasUsed self.old.capacities.verdicts
-            (text_pairs level new_text.now (map (λ old. (old.0, old.1.now)) olds.now)) self.old.pairs self.new.pairs self.new.kept_all) }
-        ensures schemas { OnOk result (KeepsSchemas self.old.capacities.schemas new_text.now
-            (map (λ old. old.1.now) (required.looked_at level olds.now)) self.old.texts self.new.texts) }
-        ensures unchanged { OnErr result (self.new ≡ record self.old { texts = self.new.texts }) }
-        ensures taken_out { OnErr result (LosesTexts (new_text.now ∷ map (λ old. old.1.now) (required.looked_at level olds.now))
-            self.old.texts self.new.texts) }
-    {
-        self.check(level, new_text, looked_at(level, olds))
     }
 
     /// The judgement of a new schema's text against old ones, which stand by ascending version: what

@@ -1,6 +1,6 @@
 // The schemas that a judge keeps.
-ghost use Rattle.std.specs.Prelude.{◌≡◌, ◌⊎◌, None, IfOk, IfErr, IfSome, OnErr, OnOk, is_some, map};
-ghost use Rattle.avro_resolve.specs.avro_schema.Schema.{is_schema};
+ghost use Rattle.std.specs.Prelude.{◌≡◌, ◌⊎◌, None, Some, IfOk, IfErr, IfSome, OnErr, OnOk, is_some, map};
+ghost use Rattle.avro_resolve.specs.avro_schema.Schema.{is_schema, schema_of};
 ghost use Rattle.reg_levels.specs.Judgement.{first_unread};
 ghost use Rattle.reg_judge.specs.Judge.{KeepsInTurn, LosesTexts, with_text, without_text, without_texts};
 ghost use Rattle.reg_judge.specs.Kept.{AreSchemas, IsUnread, texts_in};
@@ -44,6 +44,41 @@ pub(crate) fn take(
         })),
         None => Ok(None),
     }
+}
+
+/// The same, where the schema may be given: then it isn't read, and one that is kept goes.
+pub(crate) fn take_given(
+    alloc: Global,
+    kept: &mut Schemas,
+    text: &str,
+    given: Option<Schema>,
+) -> Result<Option<Source>, AllocError>
+    requires kept { AreSchemas kept.old.entries }
+    requires given { IfSome given (λ schema. schema_of text.now ≡ Some schema) }
+    ensures text { IfOk result (λ found. IfSome found (λ source. source ≡ text.now)) }
+    ensures read { IfOk result (λ found. is_some found ≡ is_schema text.now) }
+    ensures left { AreSchemas kept.new.entries }
+    ensures out { texts_in kept.new.entries ≡ without_text text.now (texts_in kept.old.entries) }
+    ensures capacity { kept.new.cap ≡ kept.old.cap }
+{
+    match given {
+        Some(schema) => {
+            leave_out(kept, text);
+            let text = String::from_str(alloc, text)?;
+            Ok(Some(Source { text, schema }))
+        }
+        None => take(alloc, kept, text),
+    }
+}
+
+/// Keeps the schema of a text no longer.
+fn leave_out(kept: &mut Schemas, text: &str)
+    requires { AreSchemas kept.old.entries }
+    ensures left { AreSchemas kept.new.entries }
+    ensures out { texts_in kept.new.entries ≡ without_text text.now (texts_in kept.old.entries) }
+    ensures capacity { kept.new.cap ≡ kept.old.cap }
+{
+    let _gone = kept.pop_entry(text);
 }
 
 /// The schemas of the old texts, each with its version.

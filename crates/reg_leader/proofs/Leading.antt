@@ -1,16 +1,20 @@
 -- From what the parts of a command come to, to its step.
 use Rattle.std.proofs.Common.{◌≡◌, ◌⊎◌, ℕ, List, [], Result, Ok, Err, refl, sym, ap, subst, ◌∙◌, inl, inr}
+use Rattle.reg_rules.specs.avro_schema.Reading.{Reading, kept_of}
 use Rattle.reg_rules.specs.reg_records.declared.record.Record.{Record}
 use Rattle.reg_rules.specs.reg_refusals.Refusal.{no_memory}
 use Rattle.reg_rules.specs.reg_refusals.declared.refusal.Refusal.{Refusal}
+use Rattle.reg_rules.specs.reg_refusals.declared.refusal.Refusal.TheVariants as refusals
+use Rattle.reg_rules.specs.Finding.{IsRead}
 use Rattle.reg_rules.specs.reg_set.Records.{Records}
-use Rattle.reg_leader.specs.Course.{Course, Refused, Does, IfMet, IsOutcome}
+use Rattle.reg_leader.specs.Course.{Course, Refused, Does, IfMet, IsOutcome, where_found}
 use Rattle.reg_leader.specs.Deciding.{Follows}
 use Rattle.reg_leader.specs.Outcome.{Decides, Concludes}
 use Rattle.reg_leader.specs.Step.{IsStep, course_of, register}
-use Rattle.reg_leader.specs.Leading.{IsDeed, IsRefusal, LeadsTo, before, if_met}
+use Rattle.reg_leader.specs.Leading.{IsBefore, IsDeed, IsRefusal, LeadsTo, Leaves, before, before_of, if_met}
 use Rattle.reg_leader.specs.declared.command.Command.{Command}
 use Rattle.reg_leader.specs.declared.decision.Decision.{Decision}
+use Rattle.reg_leader.specs.declared.deed.Candidate.{Candidate}
 use Rattle.reg_leader.specs.declared.deed.Deed.{Deed}
 use Rattle.reg_leader.specs.declared.reply.Reply.{Reply}
 use Rattle.reg_leader.specs.declared.reply.Reply.TheVariants as replies
@@ -20,6 +24,17 @@ pub leads_followed : (course : Course) (r : Result Deed Refusal) → Follows cou
 leads_followed course (Ok deed) h = subst (λ c. IsDeed c deed) (sym h) refl
 leads_followed course (Err refusal) (inl memory) = inl memory
 leads_followed course (Err refusal) (inr h) = inr (subst (λ c. IsRefusal c refusal) (sym h) refl)
+
+-- what is left for the schema that a text means is left for the text
+pub before_read : (rs : Records) (n : ℕ) (subject text : List ℕ) (reading : Reading) → IsRead text (Ok reading)
+    → (r : Result Candidate Refusal) → Leaves (before_of rs n subject reading) r → IsBefore rs n subject text r
+before_read rs n subject text reading (schema, means, kept) r left =
+    subst (λ course. Leaves course r) (λ j. λ checked. same checked j) left
+  where
+    same : (checked : List ℕ → Course) → before_of rs n subject reading checked ≡ before rs n subject text checked
+    same checked =
+        ap (λ k. before_of rs n subject k checked) (sym kept)
+        ∙ sym (ap (λ o. where_found o (λ s. before_of rs n subject (kept_of s) checked) (Refused refusals.InvalidSchema)) means)
 
 -- a registration, by what is known before the check
 module _ (rs : Records) (n : ℕ) (subject text : List ℕ) where

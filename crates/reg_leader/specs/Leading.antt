@@ -1,6 +1,7 @@
 -- Private: what the functions behind a decision come to for a command whose level may be checked. Any of them may be refused memory.
 use Rattle.std.specs.Prelude.{◌≡◌, ◌⊎◌, ℕ, List, [], false, Some, Result, Ok, Err}
 use Rattle.std.specs.List.{filter}
+use Rattle.reg_rules.specs.avro_schema.Reading.{Reading, kept_of}
 use Rattle.reg_rules.specs.reg_fold.InForce.{level}
 use Rattle.reg_rules.specs.reg_fold.Standing.{live}
 use Rattle.reg_rules.specs.reg_levels.Texts.{TextsMeet}
@@ -8,6 +9,7 @@ use Rattle.reg_rules.specs.reg_modes.InForce.{mode}
 use Rattle.reg_rules.specs.reg_modes.Permitted.{may_register}
 use Rattle.reg_rules.specs.reg_refusals.Refusal.{no_memory}
 use Rattle.reg_rules.specs.reg_refusals.declared.refusal.Refusal.{Refusal}
+use Rattle.reg_rules.specs.reg_refusals.declared.refusal.Refusal.TheVariants as refusals
 use Rattle.reg_rules.specs.reg_set.Records.{Records}
 use Rattle.reg_rules.specs.Report.{IsClash}
 use Rattle.reg_leader.specs.Course.{Course, Refused, Does, IfMet, incompatible, ◌▸◌, where_found}
@@ -15,6 +17,7 @@ use Rattle.reg_rules.specs.Standing.{id_for, next_version}
 use Rattle.reg_rules.specs.reg_entries.Sought.{has_schema, newest, texts_of}
 use Rattle.reg_leader.specs.Step.{where_read, writes}
 use Rattle.reg_rules.specs.Tests as test
+use Rattle.reg_rules.specs.Tests.{refuse_unless}
 use Rattle.reg_leader.specs.declared.deed.Deed.{Deed}
 use Rattle.reg_leader.specs.declared.deed.Candidate.{Candidate}
 use Rattle.reg_leader.specs.declared.deed.Candidate.TheVariants as found
@@ -43,20 +46,24 @@ abbrev pub if_met : Records → List ℕ → List ℕ → Course
 if_met rs subject normal = IfMet (level rs (Some subject)) normal (texts_of (live rs subject))
     (writes [] subject normal (id_for rs normal) (next_version rs subject))
 
--- what comes before that
-abbrev pub before : Records → ℕ → List ℕ → List ℕ → (List ℕ → Course) → Course
-before rs n subject text checked =
-    where_read text (λ schema.
-    test.must_have_valid_defaults schema
+-- what comes before that, for a schema that was read, and for a text
+abbrev pub before_of : Records → ℕ → List ℕ → Reading → (List ℕ → Course) → Course
+before_of rs n subject schema checked =
+    refuse_unless schema.has_valid_defaults refusals.InvalidSchema
     ▸ test.must_be_open rs
     ▸ test.must_have_offset n
     ▸ may_register (mode rs (Some subject)) false
-    ▸ where_found (newest (filter (has_schema schema.normal_text) (live rs subject)))
-    (λ same. Does (replies.Id same.id) []) (checked schema.normal_text))
+    ▸ where_found (newest (filter (has_schema schema.normal) (live rs subject)))
+    (λ same. Does (replies.Id same.id) []) (checked schema.normal)
+
+abbrev pub before : Records → ℕ → List ℕ → List ℕ → (List ℕ → Course) → Course
+before rs n subject text checked = where_read text (λ schema. before_of rs n subject (kept_of schema) checked)
+
+-- what is left of a course whose check comes last
+abbrev pub Leaves : ((List ℕ → Course) → Course) → Result Candidate Refusal → Type 0
+Leaves course (Ok (found.Live id)) = (checked : List ℕ → Course) → course checked ≡ Does (replies.Id id) []
+Leaves course (Ok (found.New schema)) = (checked : List ℕ → Course) → course checked ≡ checked schema.normal
+Leaves course (Err refusal) = (refusal ≡ no_memory) ⊎ ((checked : List ℕ → Course) → course checked ≡ Refused refusal)
 
 abbrev pub IsBefore : Records → ℕ → List ℕ → List ℕ → Result Candidate Refusal → Type 0
-IsBefore rs n subject text (Ok (found.Live id)) = (checked : List ℕ → Course) → before rs n subject text checked ≡ Does (replies.Id id) []
-IsBefore rs n subject text (Ok (found.New schema)) = (checked : List ℕ → Course)
-    → before rs n subject text checked ≡ checked schema.normal_text
-IsBefore rs n subject text (Err refusal) = (refusal ≡ no_memory)
-    ⊎ ((checked : List ℕ → Course) → before rs n subject text checked ≡ Refused refusal)
+IsBefore rs n subject text = Leaves (before rs n subject text)

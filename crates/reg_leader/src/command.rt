@@ -1,4 +1,5 @@
 // What a registry is told to do.
+use reg_rules::avro_schema::SchemaText;
 use reg_rules::base_text::Text;
 use reg_rules::reg_fold::VersionRef;
 use reg_rules::reg_level_names::Level;
@@ -10,12 +11,12 @@ pub enum Command {
     /// The text is a schema's.
     Register {
         subject: Text,
-        text: Text,
+        text: SchemaText,
     },
     /// The id is the caller's, and so is the version, where one is given.
     ImportRegister {
         subject: Text,
-        text: Text,
+        text: SchemaText,
         id: u32,
         version: Option<u32>,
     },
@@ -45,4 +46,20 @@ pub enum Command {
     /// Takes the subject's own mode away.
     ClearMode(Text),
     Noop,
+}
+
+impl Command {
+    /// The text of the schema that is to be registered. Takes no memory.
+    pub fn schema(&self) -> Option<&SchemaText> {
+        match self {
+            Command::Register { text, .. } | Command::ImportRegister { text, .. } => Some(text),
+            Command::DeleteVersion { .. }
+            | Command::DeleteSubject { .. }
+            | Command::SetLevel { .. }
+            | Command::ClearLevel(_)
+            | Command::SetMode { .. }
+            | Command::ClearMode(_)
+            | Command::Noop => None,
+        }
+    }
 }

@@ -7,7 +7,7 @@ use crate::deed::Deed;
 use crate::marking::mark_over;
 use crate::registering::{next_version, writes};
 use crate::reply::Reply;
-use reg_rules::avro_schema::Schema;
+use reg_rules::avro_schema::{SchemaReading, SchemaText};
 use reg_rules::base_text::Text;
 use reg_rules::reg_fold::{Entry, Reason, Refusal, Registry, VersionRef};
 use reg_rules::reg_modes::{may_register, mode_in_force};
@@ -22,13 +22,13 @@ pub(crate) fn import_register(
     registry: &Registry,
     next: u64,
     subject: &Text,
-    text: &Text,
+    text: &SchemaText,
     id: u32,
     version: Option<u32>,
 ) -> Result<Deed, Refusal>
     ensures { Follows (import_register registry.now next subject.now text.now id version) result }
 {
-    let schema = read_schema(alloc, text)?;
+    let schema = read_schema(text)?;
     must_be_open(registry)?;
     must_have_offset(next)?;
     may_register(mode_in_force(registry, Some(subject.as_str())), true)?;
@@ -45,11 +45,11 @@ fn import_at(
     alloc: Global,
     registry: &Registry,
     subject: &Text,
-    schema: &Schema,
+    schema: &SchemaReading,
     id: u32,
     version: u32,
 ) -> Result<Deed, Refusal>
-    ensures { Follows (import_as registry.now subject.now schema.now.normal_text id (Some version)) result }
+    ensures { Follows (import_as registry.now subject.now schema.now.normal id (Some version)) result }
 {
     let place = VersionRef::Number(version);
     if let Some(entry) = registry.version(subject.as_str(), place, false)? {
@@ -78,10 +78,10 @@ fn import_next(
     alloc: Global,
     registry: &Registry,
     subject: &Text,
-    schema: &Schema,
+    schema: &SchemaReading,
     id: u32,
 ) -> Result<Deed, Refusal>
-    ensures { Follows (import_as registry.now subject.now schema.now.normal_text id None) result }
+    ensures { Follows (import_as registry.now subject.now schema.now.normal id None) result }
 {
     if live_import(registry, subject.as_str(), id, schema.normal().as_str())?.is_some() {
         return Ok(Deed {

@@ -3,11 +3,11 @@ ghost use Rattle.std.specs.Prelude.{◌≡◌, IfOk};
 ghost use Rattle.reg_leader.specs.Deciding.{Follows};
 ghost use Rattle.reg_rules.specs.Standing.{id_for, next_version};
 ghost use Rattle.reg_leader.specs.Step.{register, writes};
-ghost use Rattle.reg_leader.specs.Leading.{IsBefore, LeadsTo, if_met};
+ghost use Rattle.reg_leader.specs.Leading.{IsBefore, LeadsTo, Leaves, before_of, if_met};
 
 use crate::deed::{Candidate, Deed};
 use crate::reply::Reply;
-use reg_rules::avro_schema::Schema;
+use reg_rules::avro_schema::{SchemaReading, SchemaText};
 use reg_rules::base_text::Text;
 use reg_rules::reg_fold::{Refusal, Registry};
 use reg_rules::reg_levels::Judged;
@@ -23,12 +23,12 @@ pub(crate) fn register(
     registry: &Registry,
     next: u64,
     subject: &Text,
-    text: &Text,
+    text: &SchemaText,
     judged: Option<&Judged>,
 ) -> Result<Deed, Refusal>
     ensures { LeadsTo (register registry.now next subject.now text.now) result }
 {
-    match candidate(alloc, registry, next, subject, text)? {
+    match candidate(registry, next, subject, text)? {
         Candidate::Live(id) => Ok(Deed {
             reply: Reply::Id(id),
             writings: Vec::new(alloc),
@@ -39,15 +39,26 @@ pub(crate) fn register(
 
 /// The tests before the check of the level, and the id of a schema that is live already.
 fn candidate(
-    alloc: Global,
     registry: &Registry,
     next: u64,
     subject: &Text,
-    text: &Text,
+    text: &SchemaText,
 ) -> Result<Candidate, Refusal>
     ensures { IsBefore registry.now next subject.now text.now result }
 {
-    let schema = read_schema(alloc, text)?;
+    let schema = read_schema(text)?;
+    candidate_of(registry, next, subject, schema)
+}
+
+/// The same of a schema that was read.
+fn candidate_of(
+    registry: &Registry,
+    next: u64,
+    subject: &Text,
+    schema: SchemaReading,
+) -> Result<Candidate, Refusal>
+    ensures { Leaves (before_of registry.now next subject.now schema) result }
+{
     must_have_valid_defaults(&schema)?;
     must_be_open(registry)?;
     must_have_offset(next)?;
@@ -63,10 +74,10 @@ fn register_new(
     alloc: Global,
     registry: &Registry,
     subject: &Text,
-    schema: &Schema,
+    schema: &SchemaReading,
     judged: Option<&Judged>,
 ) -> Result<Deed, Refusal>
-    ensures { LeadsTo (if_met registry.now subject.now schema.now.normal_text) result }
+    ensures { LeadsTo (if_met registry.now subject.now schema.now.normal) result }
 {
     if let Some(message) = clash_of(alloc, registry, subject, schema, judged)? {
         let told = message.as_str();
@@ -103,11 +114,11 @@ pub(crate) fn next_version(registry: &Registry, subject: &Text) -> u64
 pub(crate) fn writes(
     first: Vec<Writing>,
     subject: &Text,
-    schema: &Schema,
+    schema: &SchemaReading,
     id: u64,
     version: u64,
 ) -> Result<Deed, Refusal>
-    ensures { Follows (writes first.items subject.now schema.now.normal_text id version) result }
+    ensures { Follows (writes first.items subject.now schema.now.normal id version) result }
 {
     let id = must_be_number(id)?;
     let version = must_be_number(version)?;

@@ -5,12 +5,13 @@ use crate::stage::Stage;
 use std::alloc::{AllocError, Global};
 use std::io::{self, ErrorKind, Read, Write};
 use std::net::{TcpListener, TcpStream};
+use std::sync::atomic::{AtomicU64, Ordering};
 use std::sync::{Arc, Wait};
 use std::thread::{self, Threads};
 use std::time::{Clock, Duration, Instant};
 
 /// How many connections there are at most.
-const CONNECTIONS: u32 = 8;
+const CONNECTIONS: u64 = 8;
 
 /// The bytes of a head at most.
 const HEAD: usize = 8_192;
@@ -20,6 +21,16 @@ const PIECE: usize = 1_024;
 
 /// How long a request and its answer may take, in seconds.
 const WITHIN: u64 = 10;
+
+/// How long a head may take, in seconds.
+const HEAD_WITHIN: u64 = 1;
+
+/// Where all threads wait for heads, so that a new connection would have to wait, one that sent nothing for so long is closed, in
+/// milliseconds.
+const SILENT: u64 = 10;
+
+/// So many times that there is within the time of a head.
+const SILENCES: u64 = HEAD_WITHIN * 1_000 / SILENT;
 
 /// How long it is waited where no connection can be accepted, in milliseconds.
 const AGAIN: u64 = 100;
@@ -40,6 +51,8 @@ struct Endpoint<R: Drop, P: Drop> {
     alloc: Global,
     listener: TcpListener,
     pages: P,
+    /// How many threads wait for a head.
+    waiting: AtomicU64,
 }
 
 /// Answers requests for pages at the listener, in threads that end with the process. Fails where one of them can't be made.
@@ -52,6 +65,7 @@ pub fn serve_pages<
         alloc,
         listener,
         pages,
+        waiting: AtomicU64::new(0),
     };
     let endpoint = Arc::new(alloc, endpoint)?;
     for _connection in 0..CONNECTIONS {
@@ -77,7 +91,7 @@ impl<R: Wait + Clock + Drop, P: Pages + Drop> Answers for Arc<Endpoint<R, P>, Gl
         for _ in self.rt.forever() {
             match self.listener.accept() {
                 Ok((stream, _peer)) => {
-                    let _answered = answer(&self.rt, self.alloc, stream, &self.pages);
+                    let _answered = self.answer(stream);
                 }
                 Err(_refused) => thread::sleep(&self.rt, Duration::from_millis(AGAIN)),
             }
@@ -85,25 +99,25 @@ impl<R: Wait + Clock + Drop, P: Pages + Drop> Answers for Arc<Endpoint<R, P>, Gl
     }
 }
 
-/// Answers the one request of a connection.
-fn answer<R: Clock, P: Pages>(
-    rt: &R,
-    alloc: Global,
-    stream: TcpStream,
-    pages: &P,
-) -> io::Result<()> {
-    let mut stream = stream;
-    let begun = Instant::now(rt)?;
-    let asked = match take_head(rt, alloc, &mut stream, begun)? {
-        Some(head) => asked_in(&head),
-        None => PageRequest::Malformed,
-    };
-    let page = match asked {
-        PageRequest::Metrics => pages.metrics(alloc)?,
-        _ => Vec::new(alloc),
-    };
-    let response = answer_to(alloc, asked, pages.stage(), &page)?;
-    send(rt, &mut stream, begun, &response)
+impl<R: Clock + Drop, P: Pages + Drop> Endpoint<R, P> {
+    /// Answers the one request of a connection.
+    fn answer(&self, stream: TcpStream) -> io::Result<()> {
+        let mut stream = stream;
+        let begun = Instant::now(&self.rt)?;
+        self.waiting.fetch_add(1, Ordering::SeqCst);
+        let head = take_head(&self.rt, self.alloc, &mut stream, begun, &self.waiting);
+        self.waiting.fetch_sub(1, Ordering::SeqCst);
+        let asked = match head? {
+            Some(head) => asked_in(&head),
+            None => PageRequest::Malformed,
+        };
+        let page = match asked {
+            PageRequest::Metrics => self.pages.metrics(self.alloc)?,
+            _ => Vec::new(self.alloc),
+        };
+        let response = answer_to(self.alloc, asked, self.pages.stage(), &page)?;
+        send(&self.rt, &mut stream, begun, &response)
+    }
 }
 
 /// Sends a response.
@@ -118,17 +132,17 @@ fn send<R: Clock>(
         if rest.is_empty() {
             break;
         }
-        stream.set_write_timeout(Some(left(rt, begun)?))?;
+        stream.set_write_timeout(Some(left(rt, begun, WITHIN)?))?;
         let len = stream.write(rest)?;
         rest = rest.get(len..).unwrap_or(&[]);
     }
     Ok(())
 }
 
-/// The time that is left; an error where none is.
-fn left<R: Clock>(rt: &R, begun: Instant) -> io::Result<Duration> {
+/// The time that is left of so many seconds; an error where none is.
+fn left<R: Clock>(rt: &R, begun: Instant, within: u64) -> io::Result<Duration> {
     let taken = Instant::now(rt)?.duration_since(begun);
-    match Duration::from_secs(WITHIN).checked_sub(taken) {
+    match Duration::from_secs(within).checked_sub(taken) {
         Some(left) => {
             if left.is_zero() {
                 return Err(io::Error::from(ErrorKind::TimedOut));
@@ -145,12 +159,12 @@ fn take_head<R: Clock>(
     alloc: Global,
     stream: &mut TcpStream,
     begun: Instant,
+    waiting: &AtomicU64,
 ) -> io::Result<Option<Vec<u8>>> {
     let mut head = Vec::new(alloc);
     let mut buffer = [0u8; PIECE];
     for _piece in 0..HEAD {
-        stream.set_read_timeout(Some(left(rt, begun)?))?;
-        let len = stream.read(&mut buffer)?;
+        let len = take_piece(rt, stream, &mut buffer, begun, head.is_empty(), waiting)?;
         let bytes = buffer.get(..len).unwrap_or(&[]);
         if bytes.is_empty() || HEAD - head.len().min(HEAD) < bytes.len() {
             return Ok(None);
@@ -161,6 +175,32 @@ fn take_head<R: Clock>(
         }
     }
     Ok(None)
+}
+
+/// Reads some of a head; an error where it takes too long, or where nothing came yet and others have to wait.
+fn take_piece<R: Clock>(
+    rt: &R,
+    stream: &mut TcpStream,
+    buffer: &mut [u8],
+    begun: Instant,
+    is_silent: bool,
+    waiting: &AtomicU64,
+) -> io::Result<usize> {
+    for _ in 0..SILENCES {
+        let within = left(rt, begun, HEAD_WITHIN)?.min(Duration::from_millis(SILENT));
+        stream.set_read_timeout(Some(within))?;
+        match stream.read(buffer) {
+            Ok(len) => return Ok(len),
+            Err(error) => match error.kind() {
+                ErrorKind::WouldBlock | ErrorKind::TimedOut => {}
+                _ => return Err(error),
+            },
+        }
+        if is_silent && waiting.load(Ordering::SeqCst) >= CONNECTIONS {
+            break;
+        }
+    }
+    Err(io::Error::from(ErrorKind::TimedOut))
 }
 
 /// Whether an empty line stands in the bytes.

@@ -8,6 +8,9 @@ const AWAY: u64 = 30_000_000;
 /// How long a request may have no answer before the store counts as away, in microseconds.
 const PATIENCE: u64 = 30_000_000;
 
+/// For so long an answer of the store shows that it is there, in microseconds.
+const FRESH: u64 = 33_000_000;
+
 /// What became of the batches that a log was asked to keep.
 #[derive(Drop)]
 pub struct BatchMeters {
@@ -107,6 +110,9 @@ pub struct AdapterMeters {
     /// Whether a check was declined, and nothing came from the store since; and when.
     is_declined: Mark,
     refused: Gauge,
+    /// Whether nodes listen, and when the store answered last since then.
+    is_joined: Mark,
+    answered: Gauge,
 }
 
 impl AdapterMeters {
@@ -122,7 +128,15 @@ impl AdapterMeters {
             is_check: Mark::new(),
             is_declined: Mark::new(),
             refused: Gauge::new(),
+            is_joined: Mark::new(),
+            answered: Gauge::new(),
         }
+    }
+
+    /// All was taken in that the store had at that moment, in microseconds of one clock.
+    pub fn join(&self, now: u64) {
+        self.answered.set(now);
+        self.is_joined.set(true);
     }
 
     /// A request is made at that moment, in microseconds of one clock: a check, or one for a batch.
@@ -144,7 +158,7 @@ impl AdapterMeters {
         if self.is_check.is_set() {
             self.end_check(reply, now, date);
         } else {
-            self.end_batch(batches, reply, took);
+            self.end_batch(batches, reply, took, now);
         }
     }
 
@@ -160,10 +174,16 @@ impl AdapterMeters {
             }
         }
         self.last.set(date);
+        self.answer(now);
+    }
+
+    /// The store answered.
+    fn answer(&self, now: u64) {
+        self.answered.set(now);
         self.is_declined.set(false);
     }
 
-    fn end_batch(&self, batches: &BatchMeters, reply: AdapterReply, took: u64) {
+    fn end_batch(&self, batches: &BatchMeters, reply: AdapterReply, took: u64, now: u64) {
         match reply {
             AdapterReply::Kept => batches.kept.add(1),
             AdapterReply::Behind => batches.overtaken.add(1),
@@ -177,15 +197,17 @@ impl AdapterMeters {
             }
         }
         batches.seconds.count(took);
-        self.is_declined.set(false);
+        self.answer(now);
     }
 
     /// Whether the store counts as away at that moment: a request has had no answer for 30 s, or a check was declined no longer ago and
-    /// nothing came from the store since.
+    /// nothing came from the store since, or its last answer is 33 s old.
     pub fn is_away(&self, now: u64) -> bool {
         let is_late = self.is_open.is_set() && now.saturating_sub(self.asked.value()) >= PATIENCE;
         let is_refused = self.is_declined.is_set()
             && now.saturating_sub(self.refused.value()) < AWAY;
-        is_late || is_refused
+        let is_stale = self.is_joined.is_set()
+            && now.saturating_sub(self.answered.value()) >= FRESH;
+        is_late || is_refused || is_stale
     }
 }

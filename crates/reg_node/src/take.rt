@@ -125,7 +125,7 @@ impl Fold<Draw> for Taken {
         match item {
             Draw::Take(take) => self
                 .registry
-                .apply_beside(&take.kept, Some(&other.registry)),
+                .apply_beside(&take.kept, Some(&other.registry), None),
             Draw::Rebase(rebase) => self.rebase(rebase),
         }
     }

@@ -4,6 +4,7 @@ ghost use Rattle.reg_leader.specs.reg_modes.InForce.{mode};
 ghost use Rattle.reg_replay.specs.Candidate as spec;
 
 use reg_leader::Command;
+use reg_leader::avro_schema::SchemaText;
 use reg_leader::base_text::Text;
 use reg_leader::reg_fold::{Registry, VersionRef};
 use reg_leader::reg_level_names::Level;
@@ -65,7 +66,7 @@ fn candidate_by(
         return removing(&first.key, alone);
     }
     match decode_value(alloc, first)? {
-        Some(value) => putting(registry, &first.key, value),
+        Some(value) => putting(alloc, registry, &first.key, value),
         None => Ok(None),
     }
 }
@@ -112,7 +113,12 @@ fn removing_version(
 }
 
 /// The command that gives a key this value.
-fn putting(registry: &Registry, key: &Key, value: Value) -> Result<Option<Command>, AllocError>
+fn putting(
+    alloc: Global,
+    registry: &Registry,
+    key: &Key,
+    value: Value,
+) -> Result<Option<Command>, AllocError>
     ensures { IfOk result (λ found. found ≡ spec.putting (mode registry.now) key.now value) }
 {
     match value {
@@ -130,7 +136,8 @@ fn putting(registry: &Registry, key: &Key, value: Value) -> Result<Option<Comman
                     permanent: false,
                 }));
             }
-            Ok(Some(registering(registry, subject, version, id, schema)))
+            let text = SchemaText::new(alloc, schema);
+            Ok(Some(registering(registry, subject, version, id, text)))
         }
         Value::Config(name) => setting_level(key, name.as_str()),
         Value::Mode(name) => setting_mode(key, name.as_str()),
@@ -146,7 +153,13 @@ fn putting(registry: &Registry, key: &Key, value: Value) -> Result<Option<Comman
 }
 
 /// An import where the mode in force is IMPORT, else a registration.
-fn registering(registry: &Registry, subject: Text, version: u32, id: u32, text: Text) -> Command
+fn registering(
+    registry: &Registry,
+    subject: Text,
+    version: u32,
+    id: u32,
+    text: SchemaText,
+) -> Command
     ensures { result ≡ spec.registering (mode registry.now (Some subject)) subject version id text }
 {
     match mode_in_force(registry, Some(subject.as_str())) {

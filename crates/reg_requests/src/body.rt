@@ -5,6 +5,7 @@ ghost use Rattle.reg_requests.specs.Body.{body_of, schema_in, registration_in, r
 ghost use Rattle.reg_requests.specs.Seen.{seen_text};
 
 use reg_leader::Command;
+use reg_leader::avro_schema::SchemaText;
 use reg_leader::base_text::Text;
 use reg_leader::reg_level_names::Level;
 use reg_leader::reg_modes::Mode;
@@ -73,13 +74,13 @@ fn registration_of(
     let command = match (id, version) {
         (Some(id), version) => Command::ImportRegister {
             subject: Text::copy_of(alloc, subject)?,
-            text: Text::copy_of(alloc, text)?,
+            text: SchemaText::new(alloc, Text::copy_of(alloc, text)?),
             id,
             version,
         },
         (None, None) => Command::Register {
             subject: Text::copy_of(alloc, subject)?,
-            text: Text::copy_of(alloc, text)?,
+            text: SchemaText::new(alloc, Text::copy_of(alloc, text)?),
         },
         (None, Some(_)) => {
             return Ok(Err(Refusal::NotPermitted(Reason::VersionNeedsImport)));

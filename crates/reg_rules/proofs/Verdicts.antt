@@ -15,7 +15,6 @@ use Rattle.reg_levels.specs.Message.{clash_message, message_of}
 use Rattle.reg_levels.specs.RequiredPairs.{Required, required_pairs}
 use Rattle.reg_levels.specs.Texts.{IsVerdictOfTexts, VersionText, nodes_in, versions_in}
 use Rattle.reg_levels.specs.declared.verdict.LevelVerdict.{LevelVerdict}
-use Rattle.reg_modes.specs.reg_set.Records.{Records}
 use Rattle.reg_rules.specs.Report.{IsReport, LiveVersionsAreRead}
 
 -- where a verdict tells no pair, each is compatible

@@ -1,6 +1,6 @@
 -- The tests of commands, each with its refusal. Below, rs are the last records and n the next offset.
-use Rattle.std.specs.Prelude.{ℕ, List, [], ◌∷◌, Bool, true, false, nat_le, nat_lt, ◌&&◌, ◌||◌, Some, is_some, Err}
-use Rattle.reg_modes.specs.avro_schema.Defaults.{bad_defaults}
+use Rattle.std.specs.Prelude.{ℕ, List, Bool, true, false, nat_le, nat_lt, ◌&&◌, ◌||◌, Some, is_some, Err}
+use Rattle.reg_modes.specs.avro_schema.Reading.{has_valid_defaults}
 use Rattle.reg_modes.specs.avro_schema.Schema.{Meaning}
 use Rattle.reg_modes.specs.reg_entries.Sought.{has_live}
 use Rattle.reg_modes.specs.reg_fold.Closed.{two_schemas}
@@ -32,13 +32,9 @@ refuse_if false refusal = granted
 abbrev pub numbers_used_up : Refusal
 numbers_used_up = refusals.Store faults.NumbersUsedUp
 
-abbrev pub if_none : List (List ℕ) → Permit
-if_none [] = granted
-if_none (field ∷ fields) = Err refusals.InvalidSchema
-
 -- the schema's defaults are valid
 abbrev pub must_have_valid_defaults : Meaning → Permit
-must_have_valid_defaults schema = if_none (bad_defaults schema.nodes)
+must_have_valid_defaults schema = refuse_unless (has_valid_defaults schema) refusals.InvalidSchema
 
 abbrev pub if_not_opaque : Bool → Permit → Permit
 if_not_opaque true else = Err (refusals.Store faults.OpaqueRecord)

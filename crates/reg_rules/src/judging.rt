@@ -10,7 +10,7 @@ ghost use Rattle.reg_rules.specs.Report.{IsReport, LiveVersionsAreRead};
 
 use crate::looking::live_looked_at;
 use reg_levels::{Judged, LevelVerdict, check_read_texts};
-use reg_modes::avro_schema::Schema;
+use reg_modes::avro_schema::SchemaReading;
 use reg_modes::base_text::Text;
 use reg_modes::reg_entries::texts_of;
 use reg_modes::reg_fold::{Registry, entries_are_read};
@@ -25,10 +25,10 @@ pub fn clash_of(
     alloc: Global,
     registry: &Registry,
     subject: &Text,
-    schema: &Schema,
+    schema: &SchemaReading,
     judged: Option<&Judged>,
 ) -> Result<Option<Text>, AllocError>
-    ensures { IfOk result (IsReport (level registry.now (Some subject.now)) schema.now.normal_text (texts_of (live registry.now subject.now))) }
+    ensures { IfOk result (IsReport (level registry.now (Some subject.now)) schema.now.normal (texts_of (live registry.now subject.now))) }
 {
     live_versions_are_read();
     let level = registry.level(Some(subject.as_str()));
@@ -68,14 +68,13 @@ fn fitting<'a>(
 fn checked(
     alloc: Global,
     level: Level,
-    schema: &Schema,
+    schema: &SchemaReading,
     texts: &[(u32, &str)],
 ) -> Result<LevelVerdict, AllocError>
     requires rising { HasRisingVersions texts.now }
     requires read { first_unread (map (λ old. (old.0, old.1.now)) texts.now) ≡ None }
-    ensures { IfOk result (IsVerdictOfTexts level schema.now.normal_text (map (λ old. (old.0, old.1.now)) texts.now)) }
+    ensures { IfOk result (IsVerdictOfTexts level schema.now.normal (map (λ old. (old.0, old.1.now)) texts.now)) }
 {
-    // It ensures that the normal text means the schema.
-    schema.normal();
-    check_read_texts(alloc, level, schema, texts)
+    let new = schema.schema(alloc)?;
+    check_read_texts(alloc, level, &new, texts)
 }

@@ -8,29 +8,29 @@ ghost use Rattle.reg_rules.specs.Standing.{is_of};
 ghost use Rattle.reg_modes.specs.reg_entries.Sought.{has_schema, newest};
 ghost use Rattle.reg_rules.specs.Tests as test;
 
-use reg_modes::avro_schema::Schema;
-use reg_modes::base_text::Text;
+use reg_modes::avro_schema::{SchemaReading, SchemaText};
 use reg_modes::reg_fold::{Entry, Refusal, Registry};
-use std::alloc::{AllocError, Global};
+use std::alloc::AllocError;
 
-/// The schema of a text, if it has one.
-pub fn read_schema(alloc: Global, text: &Text) -> Result<Schema, Refusal>
+/// What is asked of the schema of a text, if it has one.
+pub fn read_schema(text: &SchemaText) -> Result<SchemaReading, Refusal>
     ensures { IsRead text.now result }
 {
-    match Schema::read_if_any(alloc, text.as_str())? {
-        Some(schema) => Ok(schema),
+    let found = text.reading()?;
+    match found {
+        Some(reading) => Ok(reading),
         None => Err(Refusal::InvalidSchema),
     }
 }
 
 /// Refuses with `InvalidSchema` where a default of the schema isn't valid. Takes no memory.
-pub fn must_have_valid_defaults(schema: &Schema) -> Result<(), Refusal>
-    ensures { result ≡ test.must_have_valid_defaults schema.now }
+pub fn must_have_valid_defaults(schema: &SchemaReading) -> Result<(), Refusal>
+    ensures { result ≡ test.refuse_unless schema.now.has_valid_defaults Refusal.InvalidSchema }
 {
-    match schema.check_defaults() {
-        Ok(()) => Ok(()),
-        Err(_) => Err(Refusal::InvalidSchema),
+    if !schema.has_valid_defaults() {
+        return Err(Refusal::InvalidSchema);
     }
+    Ok(())
 }
 
 /// Of a subject's live versions with that schema the greatest. They are gone through only where a version of

@@ -11,6 +11,7 @@ ghost use Rattle.reg_shared.specs.Kept.{IsRising, lasts_at, may_go};
 use crate::sought::Sought;
 use reg_floored::{deletes_below, is_gone};
 use reg_fold::Registry;
+use reg_fold::avro_schema::SchemaText;
 use reg_records::Record;
 use reg_set::{RecordSet, records_are_ordered};
 use std::alloc::{AllocError, Global};
@@ -311,7 +312,7 @@ fn copy_lasts(
 }
 
 /// Adds the batch to all three, or to none: what was last before it joins the older records. The other
-/// registry, if there is one, may have read the batch. The only error is out of memory.
+/// registry, if there is one, may have read the batch, and its schema may be the known one. The only error is out of memory.
 pub(crate) fn grow(
     alloc: Global,
     registry: &mut Registry,
@@ -319,6 +320,7 @@ pub(crate) fn grow(
     by_offset: &mut Vec<Record>,
     batch: &[Record],
     other: Option<&Registry>,
+    known: Option<&SchemaText>,
 ) -> Result<(), AllocError>
     ensures registry { OnOk result ((whole : Records) → registry.old ≡ last_records whole
         → registry.new ≡ last_records (union whole (from_list batch.now))) }
@@ -337,7 +339,7 @@ pub(crate) fn grow(
         older.truncate(before);
         return Err(refused);
     }
-    if let Err(refused) = registry.apply_all_beside(batch, other) {
+    if let Err(refused) = registry.apply_all_beside(batch, other, known) {
         older.truncate(before);
         by_offset.truncate(places);
         return Err(refused);

@@ -18,6 +18,7 @@ use crate::sought::Sought;
 use reg_feed::{FeedName, Fold};
 use reg_floored::compacting_drops_what_may_leave;
 use reg_fold::Registry;
+use reg_fold::avro_schema::SchemaText;
 use reg_leader::{AdoptError, Adopted, adopt};
 use reg_records::{Log, Record};
 use reg_set::{
@@ -84,7 +85,7 @@ impl Shared {
         let log = RecordSet::of(alloc, &base.records)?;
         let Adopted { registry, due } = adopt(alloc, &log, base.next)?;
         let mut shared = Shared::of_log(alloc, base, &log, registry)?;
-        shared.take_batch(&due, None)?;
+        shared.take_batch(&due, None, None)?;
         Ok(Begun { shared, due })
     }
 
@@ -193,9 +194,14 @@ impl Shared {
         Ok(found)
     }
 
-    /// Takes in a batch, which the other registry, if there is one, may have read. The only error is out of
-    /// memory; all is then as it was.
-    fn take_batch(&mut self, batch: &[Record], other: Option<&Registry>) -> Result<(), AllocError>
+    /// Takes in a batch, which the other registry, if there is one, may have read, and whose schema may be the known one. The only error
+    /// is out of memory; all is then as it was.
+    fn take_batch(
+        &mut self,
+        batch: &[Record],
+        other: Option<&Registry>,
+        known: Option<&SchemaText>,
+    ) -> Result<(), AllocError>
         ensures taken { OnOk result (self.new ≡ held_after_batch (follows self.old.next batch.now) self.old batch.now) }
         ensures refused { OnErr result (self.new ≡ self.old) }
     {
@@ -213,6 +219,7 @@ impl Shared {
             &mut self.by_offset,
             batch,
             other,
+            known,
         )?;
         self.next += batch.len() as u64;
         Ok(())
@@ -283,7 +290,10 @@ impl Fold<Item> for Shared {
 
     fn take_item(&mut self, item: &Item, other: &Shared) -> Result<(), AllocError> {
         match item {
-            Item::Commit(commit) => self.take_batch(commit.batch.as_slice(), Some(&other.registry)),
+            Item::Commit(commit) => {
+                let known = commit.command.schema();
+                self.take_batch(commit.batch.as_slice(), Some(&other.registry), known)
+            }
             Item::Compaction(compaction) => {
                 self.take_compaction(compaction)?;
                 self.trim();

@@ -77,3 +77,7 @@ schema_in (values.Mode mode) = None
 schema_in (values.DeleteSubject subject version) = None
 schema_in values.Noop = None
 schema_in (values.IdMark id) = None
+
+-- the normal text of that schema
+abbrev pub normal_in : Value → Option (List ℕ)
+normal_in v = option_map (λ schema. schema.normal_text) (schema_in v)

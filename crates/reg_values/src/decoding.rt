@@ -1,18 +1,18 @@
 // What the values of records mean.
-ghost use Rattle.std.specs.Prelude.{◌≡◌, ◌≤◌, ◌&&◌, ℕ, true, IfOk, IfSome, Some, None, codes, option_map};
+ghost use Rattle.std.specs.Prelude.{◌≡◌, ◌≤◌, ◌&&◌, ℕ, true, IsTrue, IfOk, IfSome, Some, None, codes, option_map};
 ghost use Rattle.std.specs.Option.{option_map_or};
 ghost use Rattle.serde_json.specs.View.{view};
-ghost use Rattle.avro_schema.specs.Schema.{schema_of};
+ghost use Rattle.avro_schema.specs.Reading.{normal_of};
 ghost use Rattle.reg_level_names.specs.Level.{is_level};
 ghost use Rattle.reg_records.specs.Json.{is_null, text_at, text_where, has_text_at, has_number_at};
 ghost use Rattle.reg_records.specs.Written.{written_value, HasLine, IsInLimits};
 ghost use Rattle.reg_records.specs.declared.key.Key.{Key};
 ghost use Rattle.reg_records.specs.declared.value.Value.{Value};
 ghost use Rattle.reg_values.specs.OfKey.{IsValueOf, ValuesAreOfKeys};
-ghost use Rattle.reg_values.specs.Value.{value_of, value_of_text, is_noop, schema_in, value_in, is_plain_avro, is_absent_or, is_avro_name, is_empty_list, deleted_in};
-ghost use Rattle.reg_values.specs.WithSchema.{with_schema};
+ghost use Rattle.reg_values.specs.Value.{value_of, value_of_text, is_noop, normal_in, value_in, is_plain_avro, is_absent_or, is_avro_name, is_empty_list, deleted_in};
+ghost use Rattle.reg_values.specs.WithNormal.{with_normal};
 
-use avro_schema::Schema;
+use avro_schema::{KnownNormal, Schema};
 use base_text::Text;
 use reg_level_names::Level;
 use reg_records::{
@@ -22,11 +22,11 @@ use reg_records::{
 use serde_json::Value as Json;
 use std::alloc::{AllocError, Global};
 
-/// A value and, where it is a version's, the schema that its text means.
+/// A value and, where it is a version's, the normal text of its schema.
 #[derive(Drop)]
 pub struct Decoded {
     pub value: Value,
-    pub schema: Option<Schema>,
+    pub normal: Option<Text>,
 }
 
 impl Decoded {
@@ -42,29 +42,38 @@ impl Decoded {
 pub fn decode_value(alloc: Global, given: &Record) -> Result<Option<Value>, AllocError>
     ensures { IfOk result (λ value. value ≡ value_of given.now) }
 {
-    Ok(decode(alloc, given)?.map(Decoded::into_value))
+    Ok(decode(alloc, given, None)?.map(Decoded::into_value))
 }
 
-/// The same, with the schema of a version, so that its text is read only once.
-pub fn decode(alloc: Global, given: &Record) -> Result<Option<Decoded>, AllocError>
+/// The same, with the normal text of a version's schema. A schema's text whose normal text is known isn't read.
+pub fn decode(
+    alloc: Global,
+    given: &Record,
+    known: Option<KnownNormal<'_>>,
+) -> Result<Option<Decoded>, AllocError>
     ensures value { IfOk result (λ found. option_map (λ d. d.value) found ≡ value_of given.now) }
-    ensures schema { IfOk result (λ found. IfSome found (λ d. d.schema ≡ schema_in d.value)) }
+    ensures normal { IfOk result (λ found. IfSome found (λ d. d.normal ≡ normal_in d.value)) }
 {
     match &given.value {
-        Some(text) => decode_text(alloc, &given.key, text),
+        Some(text) => decode_text(alloc, &given.key, text, known),
         None => Ok(None),
     }
 }
 
 /// What a text says under that key; a NOOP's may be any text.
-fn decode_text(alloc: Global, key: &Key, text: &ValueText) -> Result<Option<Decoded>, AllocError>
-    ensures { IfOk result (λ found. found ≡ option_map with_schema (value_of_text key.now text.now)) }
+fn decode_text(
+    alloc: Global,
+    key: &Key,
+    text: &ValueText,
+    known: Option<KnownNormal<'_>>,
+) -> Result<Option<Decoded>, AllocError>
+    ensures { IfOk result (λ found. found ≡ option_map with_normal (value_of_text key.now text.now)) }
 {
     if is_noop(key) {
-        return Ok(Some(without_schema(Value::Noop)));
+        return Ok(Some(without_normal(Value::Noop)));
     }
     match parse(alloc, text.as_str())? {
-        Some(json) => decode_in(alloc, key, text, &json),
+        Some(json) => decode_in(alloc, key, text, &json, known),
         None => Ok(None),
     }
 }
@@ -80,15 +89,18 @@ fn decode_in(
     key: &Key,
     text: &ValueText,
     json: &Json,
+    known: Option<KnownNormal<'_>>,
 ) -> Result<Option<Decoded>, AllocError>
-    ensures { IfOk result (λ found. found ≡ option_map with_schema (value_in key.now (view json.now))) }
+    ensures { IfOk result (λ found. found ≡ option_map with_normal (value_in key.now (view json.now))) }
 {
     match key {
-        Key::Schema { subject, version } => decode_schema(alloc, subject, *version, text, json),
+        Key::Schema { subject, version } => {
+            decode_schema(alloc, subject, *version, text, json, known)
+        }
         Key::Config(_) => decode_config(alloc, json),
         Key::Mode(_) => decode_mode(alloc, json),
         Key::DeleteSubject(subject) => decode_delete_subject(subject, json),
-        Key::Noop => Ok(Some(without_schema(Value::Noop))),
+        Key::Noop => Ok(Some(without_normal(Value::Noop))),
         Key::IdMark => Ok(decode_id_mark(json)),
     }
 }
@@ -99,8 +111,9 @@ fn decode_schema(
     version: u32,
     given: &ValueText,
     json: &Json,
+    known: Option<KnownNormal<'_>>,
 ) -> Result<Option<Decoded>, AllocError>
-    ensures { IfOk result (λ found. found ≡ option_map with_schema (value_in (Key.Schema subject.now version) (view json.now))) }
+    ensures { IfOk result (λ found. found ≡ option_map with_normal (value_in (Key.Schema subject.now version) (view json.now))) }
 {
     if !is_about_version(json, subject, version) || !is_plain_avro(json) {
         return Ok(None);
@@ -115,7 +128,7 @@ fn decode_schema(
         return Ok(None);
     };
     let text = given.share(alloc, schema)?;
-    decode_version(alloc, subject, version, id, text, deleted)
+    decode_version(alloc, subject, version, id, text, deleted, known)
 }
 
 /// Whether the members name that version of the subject.
@@ -125,7 +138,7 @@ fn is_about_version(json: &Json, subject: &Text, version: u32) -> bool
     has_text_at(json, "subject", subject.as_str()) && has_number_at(json, "version", version)
 }
 
-/// A version's value and schema; `None` where its text is no schema.
+/// A version's value with its schema's normal text; `None` where its text is no schema.
 fn decode_version(
     alloc: Global,
     subject: &Text,
@@ -133,32 +146,59 @@ fn decode_version(
     id: u32,
     text: Text,
     deleted: bool,
+    known: Option<KnownNormal<'_>>,
 ) -> Result<Option<Decoded>, AllocError>
-    ensures { IfOk result (λ found. found ≡ option_map (λ meaning. record { value = Value.Schema subject.now version id text deleted; schema = Some meaning }) (schema_of text)) }
+    ensures { IfOk result (λ found. found ≡ option_map (λ normal. record { value = Value.Schema subject.now version id text deleted; normal = Some normal }) (normal_of text)) }
 {
+    let Some(normal) = normal_of(alloc, &text, known)? else {
+        return Ok(None);
+    };
+    let value = Value::Schema {
+        subject: subject.clone()?,
+        version,
+        id,
+        schema: text,
+        deleted,
+    };
+    Ok(Some(Decoded {
+        value,
+        normal: Some(normal),
+    }))
+}
+
+/// The normal text of the schema that a text means, which is the text itself where the two are equal; `None` where it means none.
+///
+/// It is a copy, made after all that reading the schema took was given back: the first one stands in
+/// the midst of that, and would keep the memory round it from being used again.
+fn normal_of(
+    alloc: Global,
+    text: &Text,
+    known: Option<KnownNormal<'_>>,
+) -> Result<Option<Text>, AllocError>
+    ensures { IfOk result (λ normal. normal ≡ normal_of text.now) }
+{
+    if let Some(normal) = known_normal(known, text) {
+        return Ok(Some(normal.clone()?));
+    }
     match Schema::read_if_any(alloc, text.as_str())? {
-        Some(schema) => {
-            let value = Value::Schema {
-                subject: subject.clone()?,
-                version,
-                id,
-                schema: text,
-                deleted,
-            };
-            Ok(Some(Decoded {
-                value,
-                schema: Some(schema),
-            }))
-        }
+        Some(schema) if schema.normal() == text => Ok(Some(text.clone()?)),
+        Some(schema) => Ok(Some(Text::copy_of(alloc, schema.normal().as_str())?)),
         None => Ok(None),
     }
 }
 
+/// The normal text of that text, where it is known.
+fn known_normal<'a>(known: Option<KnownNormal<'a>>, text: &Text) -> Option<&'a Text>
+    ensures { IfSome result (λ normal. normal_of text.now ≡ Some normal.now) }
+{
+    known?.of(text)
+}
+
 fn decode_config(alloc: Global, json: &Json) -> Result<Option<Decoded>, AllocError>
-    ensures { IfOk result (λ found. found ≡ option_map with_schema (option_map Value.Config (text_where is_level (codes "compatibilityLevel") (view json.now)))) }
+    ensures { IfOk result (λ found. found ≡ option_map with_normal (option_map Value.Config (text_where is_level (codes "compatibilityLevel") (view json.now)))) }
 {
     match level_at(json) {
-        Some(level) => Ok(Some(without_schema(Value::Config(Text::copy_of(alloc, level)?)))),
+        Some(level) => Ok(Some(without_normal(Value::Config(Text::copy_of(alloc, level)?)))),
         None => Ok(None),
     }
 }
@@ -176,22 +216,22 @@ fn level_at(json: &Json) -> Option<&str>
 }
 
 fn decode_mode(alloc: Global, json: &Json) -> Result<Option<Decoded>, AllocError>
-    ensures { IfOk result (λ found. found ≡ option_map with_schema (option_map Value.Mode (text_at (codes "mode") (view json.now)))) }
+    ensures { IfOk result (λ found. found ≡ option_map with_normal (option_map Value.Mode (text_at (codes "mode") (view json.now)))) }
 {
     match text_at(json, "mode") {
-        Some(mode) => Ok(Some(without_schema(Value::Mode(Text::copy_of(alloc, mode)?)))),
+        Some(mode) => Ok(Some(without_normal(Value::Mode(Text::copy_of(alloc, mode)?)))),
         None => Ok(None),
     }
 }
 
 fn decode_delete_subject(subject: &Text, json: &Json) -> Result<Option<Decoded>, AllocError>
-    ensures { IfOk result (λ found. found ≡ option_map with_schema (value_in (Key.DeleteSubject subject.now) (view json.now))) }
+    ensures { IfOk result (λ found. found ≡ option_map with_normal (value_in (Key.DeleteSubject subject.now) (view json.now))) }
 {
     if !has_text_at(json, "subject", subject.as_str()) {
         return Ok(None);
     }
     match number_at(json, "version") {
-        Some(version) => Ok(Some(without_schema(Value::DeleteSubject {
+        Some(version) => Ok(Some(without_normal(Value::DeleteSubject {
             subject: subject.clone()?,
             version,
         }))),
@@ -200,22 +240,22 @@ fn decode_delete_subject(subject: &Text, json: &Json) -> Result<Option<Decoded>,
 }
 
 fn decode_id_mark(json: &Json) -> Option<Decoded>
-    ensures { result ≡ option_map with_schema (value_in Key.IdMark (view json.now)) }
+    ensures { result ≡ option_map with_normal (value_in Key.IdMark (view json.now)) }
 {
     match number_at(json, "id") {
-        Some(id) => Some(without_schema(Value::IdMark(id))),
+        Some(id) => Some(without_normal(Value::IdMark(id))),
         None => None,
     }
 }
 
 /// A value that is no version's.
-fn without_schema(value: Value) -> Decoded
-    requires { schema_in value ≡ None }
-    ensures { result ≡ with_schema value }
+fn without_normal(value: Value) -> Decoded
+    requires { normal_in value ≡ None }
+    ensures { result ≡ with_normal value }
 {
     Decoded {
         value,
-        schema: None,
+        normal: None,
     }
 }
 

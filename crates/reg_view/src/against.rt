@@ -1,5 +1,6 @@
 // What a new schema of a subject is judged against.
-ghost use Rattle.std.specs.Prelude.{◌≡◌, ◌↔◌, None, true, IsTrue, IfErr, IfOk, map};
+ghost use Rattle.std.specs.Prelude.{◌≡◌, ◌↔◌, None, Some, true, IsTrue, IfErr, IfOk, IfSome, map};
+ghost use Rattle.avro_schema.specs.Schema.{schema_of};
 ghost use Rattle.reg_levels.specs.Judgement.{IsMadeOf, IsTrueVerdict, first_unread};
 ghost use Rattle.reg_levels.specs.JudgedError.{IsJudgedRefusal};
 ghost use Rattle.reg_levels.specs.RequiredPairs.{HasRisingVersions};
@@ -75,19 +76,22 @@ impl Against {
         Ok(are_texts_of(self.olds.as_slice(), &looked_at))
     }
 
-    /// The judgement of a new schema's text. The versions are read, or taken from what the judge keeps.
+    /// The judgement of a new schema's text. The versions are read, or taken from what the judge keeps; the new text isn't read where
+    /// its schema is given.
     pub(crate) fn judged(
         &self,
         alloc: Global,
         new_text: &Text,
+        new: Option<Schema>,
         judge: &mut Judge,
     ) -> Result<Judged, JudgedError>
+        requires { IfSome new (λ schema. schema_of new_text.now ≡ Some schema) }
         ensures made { IfOk result (λ j. IsMadeOf j self.now.level new_text.now self.now.olds) }
         ensures refused { IfErr result (IsJudgedRefusal new_text.now self.now.olds) }
         ensures capacities { judge.new.capacities ≡ judge.old.capacities }
     {
         let olds = lend_texts(alloc, self.olds.as_slice())?;
-        let verdict = verdict_on(alloc, self.level, new_text.as_str(), &olds, judge)?;
+        let verdict = verdict_on(alloc, self.level, new_text.as_str(), new, &olds, judge)?;
         let kept_text = new_text.clone()?;
         let kept_olds = self.olds.clone()?;
         Ok(Judged::of_parts(self.level, kept_text, kept_olds, verdict))
@@ -100,9 +104,11 @@ fn verdict_on(
     alloc: Global,
     level: Level,
     new_text: &str,
+    new: Option<Schema>,
     olds: &[(u32, &str)],
     judge: &mut Judge,
 ) -> Result<LevelVerdict, JudgedError>
+    requires new { IfSome new (λ schema. schema_of new_text.now ≡ Some schema) }
     requires rising { HasRisingVersions olds.now }
     requires read { first_unread (map (λ old. (old.0, old.1.now)) olds.now) ≡ None }
     ensures verdict { IfOk result (IsTrueVerdict level new_text.now (map (λ old. (old.0, old.1.now)) olds.now)) }
@@ -110,12 +116,27 @@ fn verdict_on(
     ensures capacities { judge.new.capacities ≡ judge.old.capacities }
 {
     if is_kept(new_text) && looked_at(level, olds).iter().all(|old| is_kept(old.1)) {
-        return judge.check_read(level, new_text, olds);
+        return judge.check_read(level, new_text, new, olds);
     }
-    let Some(new) = Schema::read_if_any(alloc, new_text)? else {
+    let Some(new) = given_or_read(alloc, new_text, new)? else {
         return Err(JudgedError::NewText);
     };
     Ok(check_read_texts(alloc, level, &new, olds)?)
+}
+
+/// The schema of a text, if it has one: the given one, or read. The only error is out of memory.
+fn given_or_read(
+    alloc: Global,
+    text: &str,
+    given: Option<Schema>,
+) -> Result<Option<Schema>, AllocError>
+    requires { IfSome given (λ schema. schema_of text.now ≡ Some schema) }
+    ensures { IfOk result (λ found. found ≡ schema_of text.now) }
+{
+    match given {
+        Some(schema) => Ok(Some(schema)),
+        None => Schema::read_if_any(alloc, text),
+    }
 }
 
 /// Whether a judge is asked about the text.

@@ -1,10 +1,12 @@
 // A registration that is to be judged.
-ghost use Rattle.std.specs.Prelude.{◌≡◌, ◌↔◌, true, IfErr, IfOk};
+ghost use Rattle.std.specs.Prelude.{◌≡◌, ◌↔◌, Some, true, IfErr, IfOk};
+ghost use Rattle.avro_schema.specs.Schema.{schema_of};
 ghost use Rattle.reg_levels.specs.Judgement.{IsMadeOf};
 ghost use Rattle.reg_levels.specs.JudgedError.{IsJudgedRefusal};
 ghost use Rattle.reg_view.specs.Judging.{against};
 
 use crate::against::Against;
+use avro_schema::Schema;
 use base_text::Text;
 use reg_fold::Registry;
 use reg_judge::Judge;
@@ -13,44 +15,60 @@ use std::alloc::{AllocError, Global};
 use std::marker::Model;
 
 /// A registration that is to be judged: its subject, its schema's normal text, and copies of what that
-/// is judged against.
-#[derive(Debug, Drop)]
+/// is judged against. Its schema goes to the judge with the first judgement.
+#[derive(Drop)]
 pub struct Case {
     alloc: Global,
     subject: Text,
     new_text: Text,
+    schema: Option<Schema>,
     against: Against,
 }
 
 impl Model for Case {
+    ghost use Rattle.std.specs.Prelude.{◌≡◌, IfSome, Some};
+    ghost use Rattle.avro_schema.specs.Schema.{schema_of};
     ghost use Rattle.reg_view.specs.Judging.{Matter};
 
     ghost Value = { Matter };
 
     ghost view = { λ c. record { subject = c.subject; new_text = c.new_text; standing = c.against } };
+
+    ghost invariant = { λ c. IfSome c.schema (λ schema. schema_of c.new_text ≡ Some schema) };
 }
 
 impl Case {
-    /// A case of these. Takes no memory.
-    pub(crate) fn of(alloc: Global, subject: Text, new_text: Text, against: Against) -> Case
+    /// The case of a schema, which that normal text means, against that. Takes no memory.
+    pub(crate) fn of(
+        alloc: Global,
+        subject: Text,
+        new_text: Text,
+        schema: Schema,
+        against: Against,
+    ) -> Case
+        requires { schema_of new_text ≡ Some schema }
         ensures { result ≡ record { subject = subject; new_text = new_text; standing = against } }
     {
         Case {
             alloc,
             subject,
             new_text,
+            schema: Some(schema),
             against,
         }
     }
 
     /// The judgement, by the judge where no text that counts is longer than 4,096 bytes, else without it. Refused
     /// where a text is no schema's, the new one's fault first, or where memory is.
-    pub fn judged(&self, judge: &mut Judge) -> Result<Judged, JudgedError>
-        ensures made { IfOk result (λ j. IsMadeOf j self.now.standing.level self.now.new_text self.now.standing.olds) }
-        ensures refused { IfErr result (IsJudgedRefusal self.now.new_text self.now.standing.olds) }
+    pub fn judged(&mut self, judge: &mut Judge) -> Result<Judged, JudgedError>
+        ensures made { IfOk result (λ j. IsMadeOf j self.old.standing.level self.old.new_text self.old.standing.olds) }
+        ensures refused { IfErr result (IsJudgedRefusal self.old.new_text self.old.standing.olds) }
+        ensures same { self.new ≡ self.old }
         ensures capacities { judge.new.capacities ≡ judge.old.capacities }
     {
-        self.against.judged(self.alloc, &self.new_text, judge)
+        let schema = self.schema.take();
+        self.against
+            .judged(self.alloc, &self.new_text, schema, judge)
     }
 
     /// Whether it is the case of the same registration over a registry. The only error is out of memory.
@@ -68,6 +86,7 @@ impl Case {
             alloc,
             subject,
             new_text,
+            schema,
             against: _,
         } = self;
         let against = Against::over(alloc, registry, &subject)?;
@@ -75,6 +94,7 @@ impl Case {
             alloc,
             subject,
             new_text,
+            schema,
             against,
         })
     }

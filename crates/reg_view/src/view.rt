@@ -14,7 +14,7 @@ use crate::against::Against;
 use crate::case::Case;
 use crate::laws::alike_judges_alike;
 use crate::shows::ShowsRegistry;
-use avro_schema::{Schema, normal_texts_read_back};
+use avro_schema::{SchemaText, normal_texts_read_back};
 use base_text::Text;
 use reg_alike::alike_answers_alike;
 use reg_feed::{Copies, FeedName, FeedReader, Seen};
@@ -120,7 +120,7 @@ impl<T: Drop, V: ShowsRegistry<T> + Drop, N: FeedName<T, V>, S: Copies<T, V, N>>
         ensures capacities { judge.new.capacities ≡ judge.old.capacities }
     {
         normal_texts_read_back();
-        let Some(case) = self.case(command)? else {
+        let Some(mut case) = self.case(command)? else {
             return Ok(None);
         };
         match case.judged(judge) {
@@ -243,20 +243,20 @@ fn copy_case<T: Drop, V: ShowsRegistry<T> + Drop, N: FeedName<T, V>, S: Copies<T
     alloc: Global,
     reader: &mut FeedReader<T, V, N, S>,
     subject: &Text,
-    text: &Text,
+    text: &SchemaText,
 ) -> Result<Option<Case>, AllocError>
     requires { V.begins N.first }
     ensures case { IfOk result (λ found. IfSome found (IsMatterOf (last_records (V.comes_to N.first reader.new)) (Register subject.now text.now))) }
     ensures none { IfOk result (λ found. IfNone found (schema_of text.now ≡ None)) }
     ensures longer { IsPrefix reader.old reader.new }
 {
-    let Some(schema) = Schema::read_if_any(alloc, text.as_str())? else {
+    let Some(schema) = text.schema()? else {
         return Ok(None);
     };
     let subject = subject.clone()?;
     let new_text = schema.normal().clone()?;
     let against = copy_against(alloc, reader, &subject)?;
-    Ok(Some(Case::of(alloc, subject, new_text, against)))
+    Ok(Some(Case::of(alloc, subject, new_text, schema, against)))
 }
 
 /// What a new schema is judged against.

@@ -14,7 +14,6 @@ ghost use Rattle.reg_alike.specs.reg_fold.Entries.{entries};
 ghost use Rattle.reg_topic.specs.Topic.{records_of_item};
 ghost use Rattle.reg_world.specs.Eager.{after_key, after_records, eager_after, flagged_by, flagged_with, put_by, standing_at};
 
-use reg_alike::avro_schema::Schema;
 use reg_alike::base_text::Text;
 use reg_alike::reg_entries::{Entries, Entry, Flag};
 use reg_alike::reg_fold::{Registry, entries_are_of_places};
@@ -136,7 +135,7 @@ fn take_version(
 fn put_by(alloc: Global, given: &Record) -> Result<Option<Entry>, AllocError>
     ensures { IfOk result (λ found. found ≡ put_by given.now) }
 {
-    let Some(Decoded { value, schema }) = decode(alloc, given)? else {
+    let Some(Decoded { value, normal }) = decode(alloc, given, None)? else {
         return Ok(None);
     };
     match value {
@@ -147,13 +146,12 @@ fn put_by(alloc: Global, given: &Record) -> Result<Option<Entry>, AllocError>
             schema: text,
             deleted,
         } => {
-            let normal = normal_of(&schema)?;
             Ok(Some(Entry {
                 subject,
                 version,
                 id,
                 text,
-                normal,
+                normal: or_empty(normal),
                 offset: given.offset,
                 soft: deleted,
             }))
@@ -166,13 +164,13 @@ fn put_by(alloc: Global, given: &Record) -> Result<Option<Entry>, AllocError>
     }
 }
 
-/// The normal text of a schema; without one no text.
-fn normal_of(schema: &Option<Schema>) -> Result<Text, AllocError>
-    ensures { IfOk result (λ normal. normal ≡ option_map_or (λ meaning. meaning.normal_text) schema.now []) }
+/// That text, or the empty one.
+fn or_empty(text: Option<Text>) -> Text
+    ensures { result ≡ option_map_or (λ text. text) text [] }
 {
-    match schema {
-        Some(schema) => schema.normal().clone(),
-        None => Ok(Text::empty()),
+    match text {
+        Some(text) => text,
+        None => Text::empty(),
     }
 }
 

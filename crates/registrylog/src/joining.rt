@@ -35,13 +35,14 @@ impl<'a, R: Drop> JoinPorts<'a, R> {
     }
 }
 
-impl<R: Net<Listener = TcpListener, Stream = TcpStream> + Eprint + Drop> Endpoints
+impl<R: Net<Listener = TcpListener, Stream = TcpStream> + Eprint + Clock + Drop> Endpoints
     for JoinPorts<'_, R> {
     fn listen(&mut self) -> Result<Vec<TcpListener>, ServiceError> {
         self.place.listen(&self.rt, self.alloc)
     }
 
     fn ready(&mut self, reached: u64) -> bool {
+        self.board.adapter.join(microseconds(&self.rt));
         self.board.marks.listens.set(true);
         let _told = self
             .rt
@@ -50,7 +51,7 @@ impl<R: Net<Listener = TcpListener, Stream = TcpStream> + Eprint + Drop> Endpoin
     }
 }
 
-/// Says that what was told next is no command's.
+/// Says that what was told next is no command's, and that nothing is told.
 #[derive(Drop)]
 pub(crate) struct JoinWatch<'a, R: Drop> {
     rt: R,
@@ -67,6 +68,10 @@ impl<R: Eprint + Drop> Watch for JoinWatch<'_, R> {
     fn stopped(&self, offset: u64) {
         self.board.marks.is_unlawful.set(true);
         let _told = self.rt.eprintln(format_args!("batch at offset {offset} is not a command's"));
+    }
+
+    fn silent(&self) {
+        let _told = self.rt.eprintln("the adapter has said nothing for 30 s: is its store there?");
     }
 }
 

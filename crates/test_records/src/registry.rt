@@ -36,8 +36,8 @@ fn fill_in_batches(registry: &mut Registry, records: &[Record], others: &[Regist
             let batch = records.get(first..place).unwrap_or(&[]);
             let other = others.get(first % 4);
             match batch {
-                [record] => registry.apply_beside(record, other)?,
-                _ => registry.apply_all_beside(batch, other)?,
+                [record] => registry.apply_beside(record, other, None)?,
+                _ => registry.apply_all_beside(batch, other, None)?,
             }
             first = place;
         }

@@ -3,6 +3,7 @@ use crate::words::{
     level_of, mode_of, parts_of, schema_of, scope_of, subject_in_words, version_of,
 };
 use reg_leader::Command;
+use reg_leader::avro_schema::SchemaText;
 use std::alloc::Global;
 use test_tools::{CaseError, Said, cut, small_of};
 
@@ -15,7 +16,7 @@ fn import_command(alloc: Global, subject: &str, words: &str) -> Said<Command> {
     };
     Ok(Command::ImportRegister {
         subject: subject_in_words(alloc, subject)?,
-        text: schema_of(alloc, schema)?,
+        text: SchemaText::new(alloc, schema_of(alloc, schema)?),
         id: small_of(id)?,
         version,
     })
@@ -54,7 +55,7 @@ pub fn command_in_words(alloc: Global, words: &str) -> Said<Command> {
     match kind {
         "register" => Ok(Command::Register {
             subject: subject_in_words(alloc, subject)?,
-            text: schema_of(alloc, schema)?,
+            text: SchemaText::new(alloc, schema_of(alloc, schema)?),
         }),
         "import" => import_command(alloc, subject, schema),
         "clear_level" => Ok(Command::ClearLevel(subject_in_words(alloc, rest)?)),

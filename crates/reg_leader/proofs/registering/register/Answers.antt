@@ -21,7 +21,7 @@ returns-in-Live c =
 
 pub returns-in-New : goal.returns-in-New
 returns-in-New c =
-    leads_new c.args.registry.now c.args.next c.args.subject.now c.args.text.now c.in-New.schema.normal_text
+    leads_new c.args.registry.now c.args.next c.args.subject.now c.args.text.now c.in-New.schema.normal
     (rw c.in-New.is at c.in_ok-id.ensures)
     _
     c.register_new.ensures

@@ -1,4 +1,4 @@
-use Rattle.std.proofs.Common.{◌≡◌, List, Some, map, sym, ap, subst, ◌∙◌}
+use Rattle.std.proofs.Common.{Some, map, sym, ap, subst, ◌∙◌}
 use Rattle.std.proofs.lemmas.Result.{IfOk-weaker}
 use Rattle.std.specs.List.Sorted.{IsStrictlyIncreasing}
 use Rattle.reg_modes.specs.reg_fold.InForce.{level}
@@ -38,7 +38,7 @@ returns-in-Some c =
     let rs = c.args.registry.now in
     let s = c.args.subject.now in
     let l = c.level-level.result in
-    let normal = c.args.schema.now.normal_text in
+    let normal = c.args.schema.now.normal in
     let all = texts_of (live rs s) in
     let at =
     ap (map (λ e. e.now)) c.deref.ensures.value
@@ -61,7 +61,7 @@ returns c =
     let rs = c.args.registry.now in
     let s = c.args.subject.now in
     let l = c.level-level.result in
-    let normal = c.args.schema.now.normal_text in
+    let normal = c.args.schema.now.normal in
     let all = texts_of (live rs s) in
     let at =
     ap (map (λ e. e.now)) c.deref.ensures.value

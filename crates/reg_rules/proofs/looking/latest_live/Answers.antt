@@ -1,4 +1,4 @@
-use Rattle.std.proofs.Common.{◌≡◌, List, false, map, sym, ap, subst, ◌∙◌}
+use Rattle.std.proofs.Common.{List, false, map, sym, ap, subst, ◌∙◌}
 use Rattle.std.proofs.lemmas.Result.{IfOk-weaker}
 use Rattle.std.specs.Option.{option_copied, option_to_list}
 use Rattle.reg_modes.specs.reg_entries.Sought.{AreInVersionOrder}

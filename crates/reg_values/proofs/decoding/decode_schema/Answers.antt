@@ -1,7 +1,7 @@
 use Rattle.std.proofs.Common.{◌≡◌, ◌∙◌, Option, Some, IfOk, ap, sym, subst}
 use Rattle.serde_json.specs.View.{view}
 use Rattle.reg_values.specs.declared.decoding.Decoded.{Decoded}
-use Rattle.reg_values.proofs.WithSchema.{schema_value-marked, schema_value-unmarked}
+use Rattle.reg_values.proofs.WithNormal.{schema_value-marked, schema_value-unmarked}
 use Rattle.reg_values.proofs.decoding.decode_schema.Goals as goal
 
 pub returns-in_default-deleted_in : goal.returns-in_default-deleted_in

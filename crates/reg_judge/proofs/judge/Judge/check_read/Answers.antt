@@ -20,14 +20,14 @@ returns-clause-verdict c =
     let texts : List VersionText = map told c.args.olds.now in
     let same : map told c.looked_at.result.now ≡ looked_at level texts =
     ap (map told) c.looked_at.ensures ∙ looked_at-map told level c.args.olds.now in
-    IfOk-weaker c.check.result _ _ (λ v is.
+    IfOk-weaker c.check_with.result _ _ (λ v is.
     record {
       new_is_read = is.new_is_read;
       olds_are_read = c.requires.read;
       versions_rise = rising_map (λ text. text.now) c.args.olds.now c.requires.rising;
       is_verdict = subst (λ vs. IsVerdictOn (flat_map (required_of level (nodes_in c.args.new_text.now)) (reverse vs)) v)
           (ap (λ (os : List VersionText). looked_at level (versions_in os)) same ∙ decides level texts) is.is_verdict;
-    }) c.check.ensures.verdict
+    }) c.check_with.ensures.verdict
 
 pub returns-clause-refused : goal.returns-clause-refused
 returns-clause-refused c =
@@ -36,8 +36,8 @@ returns-clause-refused c =
     let same : map told c.looked_at.result.now ≡ looked_at level texts =
     ap (map told) c.looked_at.ensures ∙ looked_at-map told level c.args.olds.now in
     let read : first_unread (map told c.looked_at.result.now) ≡ None = ap first_unread same ∙ looked_at-read level texts c.requires.read in
-    IfErr-weaker c.check.result _ _ (λ e is. refused_too c.args.new_text.now texts (map told c.looked_at.result.now) e read is)
-    c.check.ensures.refused
+    IfErr-weaker c.check_with.result _ _ (λ e is. refused_too c.args.new_text.now texts (map told c.looked_at.result.now) e read is)
+    c.check_with.ensures.refused
 
 pub returns-clause-used : goal.returns-clause-used
 returns-clause-used c =
@@ -46,6 +46,6 @@ returns-clause-used c =
     let same : looked_at level (map told c.looked_at.result.now) ≡ looked_at level texts =
     ap (λ (os : List VersionText). looked_at level os) (ap (map told) c.looked_at.ensures ∙ looked_at-map told level c.args.olds.now)
     ∙ looked_at-twice level texts in
-    subst (λ (os : List VersionText). OnOk c.check.result (HasUsed c.args.self.now.capacities.verdicts
+    subst (λ (os : List VersionText). OnOk c.check_with.result (HasUsed c.args.self.now.capacities.verdicts
     (flat_map (λ old. map (text_pair c.args.new_text.now old) (directions level)) (reverse os))
-    c.args.self.now.pairs c.check.new.self.pairs c.check.new.self.kept_all)) same c.check.ensures.used
+    c.args.self.now.pairs c.check_with.new.self.pairs c.check_with.new.self.kept_all)) same c.check_with.ensures.used

@@ -9,7 +9,7 @@ use Rattle.reg_judge.specs.Kept.{IsRun, asked_from, pairs_of, texts_in}
 use Rattle.reg_judge.proofs.Refused.{by_old}
 use Rattle.reg_judge.proofs.TextsOut.{keeps_schemas, loses_all, loses_more, loses_new, on_err}
 use Rattle.reg_judge.proofs.Runs.{is_level_verdict, are_judged, rising_map}
-use Rattle.reg_judge.proofs.judge.Judge.check.Goals as goal
+use Rattle.reg_judge.proofs.judge.Judge.check_with.Goals as goal
 
 pub returns-in_default-clause-refused : goal.returns-in_default-clause-refused
 returns-in_default-clause-refused c = sym c.in_ok-new.ensures.read ∙ ap is_some c.in_default.is
@@ -47,7 +47,7 @@ pub returns-clause-verdict : goal.returns-clause-verdict
 returns-clause-verdict c = record {
   new_is_read = sym c.in_ok-new.ensures.read ∙ ap is_some c.in-Some.is;
   olds_are_read = c.in_ok-olds.ensures.read;
-  versions_rise = rising_map (λ text. text.now) c.args.olds.now c.requires;
+  versions_rise = rising_map (λ text. text.now) c.args.olds.now c.requires.rising;
   is_verdict = is_level_verdict c.args.level c.args.new_text.now (texts c)
       (pairs_of c.in_ok-verdict.field-0.used.items) c.in_ok-verdict.field-0.verdict (ran c);
 }
@@ -75,13 +75,13 @@ Loses k new olds after = LosesTexts (new ∷ olds) k.texts after
 pub returns-in_err-new-clause-taken_out : goal.returns-in_err-new-clause-taken_out
 returns-in_err-new-clause-taken_out c =
     on_err _ _ (subst (λ (k : Keeping).
-    Loses k c.args.new_text.now (map {B = List ℕ} (λ old. old.1.now) c.args.olds.now) (texts_in c.take.new.kept.entries)) c.self.view_is
+    Loses k c.args.new_text.now (map {B = List ℕ} (λ old. old.1.now) c.args.olds.now) (texts_in c.take_given.new.kept.entries)) c.self.view_is
     (loses_new c.args.new_text.now _ _ _ c.in_err-new.ensures.out))
 
 pub returns-in_default-clause-taken_out : goal.returns-in_default-clause-taken_out
 returns-in_default-clause-taken_out c =
     subst (λ (k : Keeping).
-    Loses k c.args.new_text.now (map {B = List ℕ} (λ old. old.1.now) c.args.olds.now) (texts_in c.take.new.kept.entries)) c.self.view_is
+    Loses k c.args.new_text.now (map {B = List ℕ} (λ old. old.1.now) c.args.olds.now) (texts_in c.take_given.new.kept.entries)) c.self.view_is
     (loses_new c.args.new_text.now _ _ _ c.in_ok-new.ensures.out)
 
 pub returns-in_err-olds-clause-taken_out : goal.returns-in_err-olds-clause-taken_out
@@ -101,7 +101,7 @@ returns-clause-schemas c =
     let new = c.args.new_text.now in
     let olds = map {B = List ℕ} (λ old. old.1.now) c.args.olds.now in
     let most = c.self.inside.schemas.cap in
-    let one = texts_in c.take.new.kept.entries in
+    let one = texts_in c.take_given.new.kept.entries in
     let two = texts_in c.take_olds.new.kept.entries in
     let three = texts_in c.keep_olds.new.kept.entries in
     let after = texts_in c.keep.new.kept.entries in
