@@ -71,6 +71,16 @@ impl Case {
             .judged(self.alloc, &self.new_text, schema, judge)
     }
 
+    /// The judgement, of a case that is judged once.
+    pub(crate) fn into_judged(self, judge: &mut Judge) -> Result<Judged, JudgedError>
+        ensures made { IfOk result (λ j. IsMadeOf j self.standing.level self.new_text self.standing.olds) }
+        ensures refused { IfErr result (IsJudgedRefusal self.new_text self.standing.olds) }
+        ensures capacities { judge.new.capacities ≡ judge.old.capacities }
+    {
+        let mut case = self;
+        case.judged(judge)
+    }
+
     /// Whether it is the case of the same registration over a registry. The only error is out of memory.
     pub fn stands(&self, registry: &Registry) -> Result<bool, AllocError>
         ensures { IfOk result (λ yes. (yes ≡ true) ↔ (against registry.now self.now.subject ≡ self.now.standing)) }

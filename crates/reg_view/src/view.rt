@@ -120,10 +120,10 @@ impl<T: Drop, V: ShowsRegistry<T> + Drop, N: FeedName<T, V>, S: Copies<T, V, N>>
         ensures capacities { judge.new.capacities ≡ judge.old.capacities }
     {
         normal_texts_read_back();
-        let Some(mut case) = self.case(command)? else {
+        let Some(case) = self.case(command)? else {
             return Ok(None);
         };
-        match case.judged(judge) {
+        match case.into_judged(judge) {
             Ok(judged) => Ok(Some(judged)),
             Err(error) => {
                 must_be_unread(error)?;
