@@ -1,12 +1,14 @@
 #!/bin/bash
 # Brings up a registry, two followers and nginx with examples/nginx.conf, in a folder of its own and at other ports, and has
-# clients use them over TLS with a password: methods with and without one, bodies of all lengths, reads while followers and the writer are
-# killed, and that each command goes to the writer, once: docs/DEPLOY.md. It was run with nginx 1.22, curl 7.88 and Confluent's client 1.7.0.
+# clients use them over TLS with a password: methods with and without one, who may write and who may only read, bodies of all lengths, other
+# sites' pages, nginx's own answers, reads while followers and the writer are killed, that each command goes to the writer, once, and a client
+# beside attackers (try-attackers.py), with several workers of nginx and with one: docs/DEPLOY.md. It was run with nginx 1.22, curl 7.88 and
+# Confluent's client 1.7.0.
 #
 #   try-nginx.sh REGISTRYLOG               curl, Confluent's client for Python, and a client for Go
 #   try-nginx.sh REGISTRYLOG COMMAND ..    that command, which finds in its environment where all is
 #
-# REGISTRYLOG is the program. Where FIRST_LINES is set, the registry begins with the lines of that file; PYTHON may be another
+# REGISTRYLOG is the program. Where SHARE is set, the attackers are fewer. Where FIRST_LINES is set, the registry begins with the lines of that file; PYTHON may be another
 # Python, with another version of the client. The status is 1 where an answer isn't as it should be. It wants Debian's packages
 # nginx, openssl, apache2-utils, curl, python3-confluent-kafka, python3-requests, golang-go and
 # golang-github-lensesio-schema-registry-dev.
@@ -18,7 +20,7 @@ shift
 folder=$(mktemp -d)
 front=19443 writer=19481 followers=(19482 19483)
 unset CURL_CA_BUNDLE REQUESTS_CA_BUNDLE
-export FRONT=https://localhost:$front LOGIN=someone:secret CERTIFICATE=$folder/registry.crt
+export FRONT=https://localhost:$front LOGIN=someone:secret READER=reader:other CERTIFICATE=$folder/registry.crt
 declare -A processes=()
 wrong=0
 
@@ -33,8 +35,14 @@ end() {
     done
 }
 
+stop_nginx() {
+    [ -f "$folder/nginx.pid" ] || return 0
+    kill "$(<"$folder/nginx.pid")" 2>/dev/null || true
+    while [ -f "$folder/nginx.pid" ]; do sleep 0.1; done
+}
+
 finish() {
-    [ ! -f "$folder/nginx.pid" ] || kill "$(<"$folder/nginx.pid")" 2>/dev/null || true
+    stop_nginx
     end "${!processes[@]}"
     rm -rf "$folder"
 }
@@ -68,16 +76,23 @@ start_follower() {
     await "$1"
 }
 
-start_nginx() {
-    local spool=''
-    for name in client_body proxy fastcgi uwsgi scgi; do spool+="${name}_temp_path $folder/$name; "; done
+# What nginx serves and knows: the page, a certificate, who may write and who may only read.
+make_files() {
     mkdir -p "$folder/share/registry"
     cp -r "$here/browser" "$folder/share/registry/browser"
-    openssl req -x509 -newkey rsa:2048 -nodes -days 2 -subj /CN=localhost -addext subjectAltName=DNS:localhost \
-        -keyout "$folder/registry.key" -out "$CERTIFICATE" 2>"$folder/openssl.err"
-    htpasswd -nbB "${LOGIN%:*}" "${LOGIN#*:}" >"$folder/registry.users"
+    openssl req -x509 -newkey ec -pkeyopt ec_paramgen_curve:prime256v1 -nodes -days 2 -subj /CN=localhost \
+        -addext subjectAltName=DNS:localhost -keyout "$folder/registry.key" -out "$CERTIFICATE" 2>"$folder/openssl.err"
+    for login in "$LOGIN" "$READER"; do htpasswd -nbB "${login%:*}" "${login#*:}"; done >"$folder/registry.users"
+    echo "${LOGIN%:*} true;" >"$folder/registry.writers"
+}
+
+# start_nginx WORKERS
+start_nginx() {
+    local spool='proxy_read_timeout 10s; '
+    for name in client_body proxy fastcgi uwsgi scgi; do spool+="${name}_temp_path $folder/$name; "; done
     local log="log_format tried '\$request_method \$request_uri \$status \$upstream_addr'; access_log $folder/asked tried;"
     sed -e "s#^user .*#user $(id -un);#" -e "s#/run/nginx.pid#$folder/nginx.pid#" -e "s#^http {#http { $log $spool#" \
+        -e "s#^worker_processes .*#worker_processes $1;#" \
         -e "/upstream registry_writer/,/}/ s#127.0.0.1:8081#127.0.0.1:$writer#" \
         -e "/upstream registry_followers/,/}/ s#127.0.0.1:8081;#127.0.0.1:${followers[0]}; server 127.0.0.1:${followers[1]};#" \
         -e "s#listen 443 #listen 127.0.0.1:$front #" -e "s#registry.example#localhost#" \
@@ -90,6 +105,7 @@ start_nginx() {
 
 bare=(curl -sS --max-time 60 --cacert "$CERTIFICATE" -o "$folder/body")
 mine=("${bare[@]}" --user "$LOGIN")
+theirs=("${bare[@]}" --user "$READER")
 
 # Prints the status and the body.
 ask() {
@@ -102,6 +118,12 @@ get() { ask "$FRONT$1"; }
 post() { ask --json "$2" "$FRONT$1"; }
 put() { ask -X PUT --json "$2" "$FRONT$1"; }
 delete() { ask -X DELETE "$FRONT$1"; }
+
+# The same by somebody who may only read.
+read_by() {
+    local mine=("${theirs[@]}")
+    "$@"
+}
 
 # same WHAT WANTED GOT
 same() {
@@ -148,6 +170,69 @@ try_passwords() {
     same "no TLS" 400 "$("${bare[@]}" -w '%{http_code}' "http://localhost:$front/mode")"
 }
 
+# Somebody who may only read reads, looks schemas up and checks them, and nothing else, however the path is written.
+try_roles() {
+    local before long='{"schema":"\"long\""}' path refusal='403 {"error_code":403,"message":"This user may only read"}'
+    before=$(get /subjects) || true
+    post /subjects/role/versions "$long" >/dev/null
+    catch_up
+    before=$(get '/subjects?deleted=true')
+    same "a reader's list" "$before" "$(read_by get '/subjects?deleted=true')"
+    begins "a reader's look-up" '200 {"subject":"role",' "$(read_by post /subjects/role "$long")"
+    same "a reader's check" '200 {"is_compatible":true}' "$(read_by post /compatibility/subjects/role/versions/latest "$long")"
+    begins "a reader's HEAD" 200 "$("${theirs[@]}" -I -w '%{http_code}' "$FRONT/subjects")"
+    same "a reader's registration" "$refusal" "$(read_by post /subjects/read/versions "$long")"
+    same "a reader's level" "$refusal" "$(read_by put /config/role '{"compatibility":"NONE"}')"
+    same "a reader's mode" "$refusal" "$(read_by put /mode '{"mode":"READONLY"}')"
+    same "a reader's delete" "$refusal" "$(read_by delete /subjects/role)"
+    same "a reader's delete by HTTP/1.1" "$refusal" "$(read_by ask --http1.1 -X DELETE "$FRONT/subjects/role/versions/1")"
+    for path in /compatibility/../subjects/read/versions /compatibility/%2e%2e/subjects/read/versions //subjects/read/versions \
+        /subjects/read/versions/ '/subjects/read/versions?normalize=true' /subjects/role/../read/versions /browser/../subjects/read/versions \
+        '/subjects/read/versions#' /./subjects/read/versions /subjects%2Fread/versions /%73ubjects/read/versions; do
+        same "a reader's registration by $path" "$refusal" "$(read_by ask --path-as-is --json "$long" "$FRONT$path")"
+    done
+    same "what a reader changed" "$before" "$(get '/subjects?deleted=true')"
+    same "somebody's command in a reader's name" 401 "$("${bare[@]}" -w '%{http_code}' --user "${READER%:*}:wrong" -X DELETE "$FRONT/subjects/role")"
+    same "the inner question from outside" 404 "$("${mine[@]}" -w '%{http_code}' "$FRONT/may_write")"
+}
+
+try_settings() {
+    same "a writer's settings" '200 {"name":"localhost","write":true}' "$(get /browser/settings.json)"
+    same "a reader's settings" '200 {"name":"localhost","write":false}' "$(read_by get /browser/settings.json)"
+    same "settings without a password" 401 "$("${bare[@]}" -w '%{http_code}' "$FRONT/browser/settings.json")"
+    same "settings with another password" 401 "$("${bare[@]}" -w '%{http_code}' --user "${LOGIN%:*}:wrong" "$FRONT/browser/settings.json")"
+    same "their type" application/json "$(field_of content-type "$(head_of /browser/settings.json)")"
+}
+
+# What nginx answers itself at the API's paths is JSON, in which clients look for a message.
+try_refusals() {
+    local given path json=application/vnd.schemaregistry.v1+json
+    for path in /subjects /subjects/s/versions /schemas/ids/1 /config; do
+        given=$("${bare[@]}" -D - "$FRONT$path" | tr -d '\r')
+        begins "the status without a password" 'HTTP/2 401' "$given"
+        same "the type without a password" $json "$(field_of content-type "$given")"
+        same "what asks for one" 'Basic realm="registry"' "$(field_of www-authenticate "$given")"
+        same "the body without a password" '{"error_code":401,"message":"No such user with this password"}' "$(<"$folder/body")"
+    done
+    begins "the page without a password" '<html>' "$("${bare[@]}" "$FRONT/browser/" && cat "$folder/body")"
+    given=$("${theirs[@]}" -D - -X DELETE "$FRONT/subjects/s" | tr -d '\r')
+    same "the type for a reader" $json "$(field_of content-type "$given")"
+    same "the length for a reader" "$(stat -c %s "$folder/body")" "$(field_of content-length "$given")"
+}
+
+# Long texts are compressed for those that ask for it, and are the same then.
+try_compression() {
+    local path given whole
+    for path in /browser/page.js /schemas/ids/"$1"; do
+        get "$path" >/dev/null
+        whole=$(sha256sum <"$folder/body")
+        given=$("${mine[@]}" -H 'Accept-Encoding: gzip' -D - "$FRONT$path" | tr -d '\r')
+        same "how $path comes" gzip "$(field_of content-encoding "$given")"
+        same "what $path is" "$whole" "$(gzip -dc <"$folder/body" | sha256sum)"
+    done
+    same "how a short answer comes" '' "$("${mine[@]}" -H 'Accept-Encoding: gzip' -D - "$FRONT/mode" | grep -i '^content-encoding' || true)"
+}
+
 try_requests() {
     local int='{"schema":"\"int\""}' long='{"schema":"\"long\""}' text='{"schema":"\"string\""}'
     local clash='version 2, BACKWARD, at /: TYPE_MISMATCH'
@@ -176,12 +261,20 @@ try_sizes() {
     local doc
     doc=$(head -c 900000 /dev/zero | tr '\0' x)
     echo "{\"schema\":\"{\\\"type\\\":\\\"string\\\",\\\"doc\\\":\\\"$doc\\\"}\"}" >"$folder/large"
-    begins "a body of 900,000 bytes" '200 {"id":' "$(post /subjects/large/versions "@$folder/large")"
+    local answer
+    answer=$(post /subjects/large/versions "@$folder/large")
+    begins "a body of 900,000 bytes" '200 {"id":' "$answer"
+    try_compression "$(tr -dc 0-9 <<<"${answer#200 }")"
     echo "{\"schema\":\"$doc$doc\"}" >"$folder/large"
     same "a body of 1,800,000 bytes" '413 {"error_code":413,"message":"Payload Too Large"}' \
         "$(post /subjects/large/versions "@$folder/large")"
     echo "{\"schema\":\"$doc$doc$doc\"}" >"$folder/large"
-    begins "a body that nginx refuses" 413 "$(post /subjects/large/versions "@$folder/large")"
+    same "a body that nginx refuses" '413 {"error_code":413,"message":"Payload Too Large"}' \
+        "$(post /subjects/large/versions "@$folder/large")"
+    same "a check that nginx refuses" '413 {"error_code":413,"message":"Payload Too Large"}' \
+        "$(post /compatibility/subjects/large/versions "@$folder/large")"
+    same "a look-up in chunks that nginx refuses" '413 {"error_code":413,"message":"Payload Too Large"}' \
+        "$(ask --http1.1 -H 'Transfer-Encoding: chunked' --json "@$folder/large" "$FRONT/subjects/large")"
 }
 
 try_heads() {
@@ -204,8 +297,26 @@ try_browsers() {
     begins "the policy" "default-src 'self'; " "$(field_of content-security-policy "$given")"
     same "the script's type" application/javascript "$(field_of content-type "$given")"
     same "the way to the page" /browser/ "$(field_of location "$(head_of /)")"
-    begins "a command from another site's page" 403 \
+    local refusal='403 {"error_code":403,"message":"A page of another site may only read"}' site origin
+    same "a command from another site's page" "$refusal" \
         "$(ask -H 'Sec-Fetch-Site: cross-site' --json "$text" "$FRONT/subjects/foreign/versions")"
+    for origin in https://evil.example null "http://localhost:$front" https://localhost "$FRONT.evil.example" "$FRONT $FRONT" "$FRONT/"; do
+        same "a command of an older browser from $origin" "$refusal" \
+            "$(ask -H "Origin: $origin" -H 'Content-Type: application/octet-stream' --data-binary "$text" "$FRONT/subjects/foreign/versions")"
+        same "a delete of an older browser from $origin" "$refusal" "$(ask -H "Origin: $origin" -X DELETE "$FRONT/subjects/s")"
+    done
+    for site in same-site cross-site other; do
+        same "a command from $site that names this site" "$refusal" \
+            "$(ask -H "Sec-Fetch-Site: $site" -H "Origin: $FRONT" --json "$text" "$FRONT/subjects/foreign/versions")"
+    done
+    begins "the leave that a foreign page asks for" 403 "$(ask -X OPTIONS -H 'Origin: https://evil.example' "$FRONT/subjects/s")"
+    begins "reading from a foreign page" 200 "$(ask -H 'Origin: https://evil.example' "$FRONT/mode")"
+    begins "a command of an older browser from this site" '200 {"id":' \
+        "$(ask -H "Origin: $FRONT" --json "$text" "$FRONT/subjects/own/versions")"
+    begins "the same by HTTP/1.1" '200 {"id":' "$(ask --http1.1 -H "Origin: $FRONT" --json "$text" "$FRONT/subjects/own/versions")"
+    begins "a command of a page that hides where it is" '200 {"id":' \
+        "$(ask -H 'Sec-Fetch-Site: same-origin' -H 'Origin: null' --json "$text" "$FRONT/subjects/own/versions")"
+    begins "what foreign pages wrote" '404 {"error_code":40401' "$(get /subjects/foreign/versions)"
     begins "a check from another site's page" 403 \
         "$(ask -H 'Sec-Fetch-Site: same-site' -X POST "$FRONT/compatibility/subjects/s/versions")"
     begins "a command from this site's page" '200 {"id":' \
@@ -222,7 +333,7 @@ read_often() {
 }
 
 try_failures() {
-    local port text='{"schema":"\"bytes\""}'
+    local port text='{"schema":"\"bytes\""}' perhaps='which may have done what was asked'
     end "follow-${followers[0]}" "tail-${followers[0]}"
     read_often "without a follower"
     end "follow-${followers[1]}" "tail-${followers[1]}"
@@ -232,8 +343,15 @@ try_failures() {
     read_often "with new followers"
     end writer
     read_often "without the writer"
-    begins "a command without the writer" 502 "$(post /subjects/late/versions "$text")"
+    same "a command without the writer" "502 {\"error_code\":502,\"message\":\"No answer from the registry, $perhaps\"}" \
+        "$(post /subjects/late/versions "$text")"
+    same "what nobody has, without the writer" "502 {\"error_code\":502,\"message\":\"No answer from the registry, $perhaps\"}" \
+        "$(get /schemas/ids/424242)"
     start_writer
+    kill -STOP "${processes[writer]}"
+    same "a command to a silent writer" "504 {\"error_code\":504,\"message\":\"No answer from the registry in time, $perhaps\"}" \
+        "$(put /config/late '{"compatibility":"NONE"}')"
+    kill -CONT "${processes[writer]}"
     begins "a command to the new writer" '200 {"id":' "$(post /subjects/late/versions "$text")"
 }
 
@@ -242,10 +360,19 @@ try_ways() {
     local commands='^(PUT|DELETE|POST /subjects/[^/ ]+/versions) '
     sleep 0.5
     same "commands that went elsewhere" '' \
-        "$(grep -E "$commands" "$folder/asked" | grep -vE ' (401|403|413) -$' | grep -v " 127.0.0.1:$writer\$" || true)"
+        "$(grep -E "$commands" "$folder/asked" | grep -vE ' (401|403|413|429) -$' | grep -v " 127.0.0.1:$writer\$" || true)"
     for port in "${followers[@]}"; do
         grep -q "^GET .* 200 127.0.0.1:$port\$" "$folder/asked" || same "reads at the follower $port" some none
     done
+}
+
+# A client beside attackers, with so many workers of nginx. No line says that connections ran out.
+try_attackers() {
+    stop_nginx
+    start_nginx "$1"
+    "$here/try-attackers.py" || wrong=$((wrong + 1))
+    echo "nginx took $(ps -o cputimes= --ppid "$(<"$folder/nginx.pid")" | awk "{ all += \$1 } END { print all }") s of processor time"
+    same "what nginx ran out of" '' "$(grep -m 1 'not enough' "$folder/nginx.err" || true)"
 }
 
 # ---- other clients
@@ -341,14 +468,19 @@ END
 [ -z "${FIRST_LINES:-}" ] || { cat "$FIRST_LINES" && echo; } >"$folder/log"
 start_writer
 for port in "${followers[@]}"; do start_follower "$port"; done
-start_nginx
+make_files
+start_nginx auto
 if [ $# -gt 0 ]; then
     "$@"
     exit
 fi
-for part in passwords requests sizes heads browsers; do
+for part in passwords requests roles settings refusals sizes heads browsers; do
     "try_$part"
     echo "$part: done"
+done
+for workers in auto 1; do
+    echo "attackers, workers: $workers"
+    try_attackers "$workers"
 done
 try_python
 try_go
