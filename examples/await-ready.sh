@@ -1,14 +1,18 @@
 #!/bin/bash
 # Waits until a registry has started, for a unit's ExecStartPost=: docs/DEPLOY.md.
 #
-#   await-ready.sh [--metrics ADDRESS:PORT]
+#   await-ready.sh [--metrics ADDRESS:PORT | --metrics=ADDRESS:PORT]
 #
 # It asks /ready there, and ends once that says another word than `starting`, or with status 1 once the process MAINPID is gone. Without
 # the option it waits for nothing. The unit's TimeoutStartSec= ends it otherwise.
 set -u
-[ "${1:-}" = --metrics ] || exit 0
-host=${2%:*}
-port=${2##*:}
+case ${1:-} in
+--metrics) place=${2:-} ;;
+--metrics=*) place=${1#*=} ;;
+*) exit 0 ;;
+esac
+host=${place%:*}
+port=${place##*:}
 # Who listens at all addresses is asked at the machine's own.
 case $host in
 0.0.0.0) host=127.0.0.1 ;;

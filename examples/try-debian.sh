@@ -123,6 +123,15 @@ missing_once() {
     answers_at_once "a start once the log is back"
 }
 
+# Without an adapter a joined process says so once, and isn't started again.
+no_adapter_once() {
+    systemctl start registrylog-join || true
+    sleep 6
+    same "how a joined process without an adapter ends" "failed 2 0" "$(systemctl show -P ActiveState -P ExecMainStatus -P NRestarts registrylog-join | paste -sd ' ')"
+    same "how often it says so" 1 "$(journalctl -b -o cat --no-pager -u registrylog-join | grep -c '^JOIN_ADAPTER is empty')"
+    systemctl reset-failed registrylog-join
+}
+
 upgrade() {
     local before count
     before=$(show InvocationID) count=$(starts)
@@ -170,6 +179,7 @@ if [ -e been ]; then
     compact_once
     fault_once
     missing_once
+    no_adapter_once
     upgrade
     upgrade_joined
     take_away

@@ -59,9 +59,10 @@ units=(registrylog registrylog-follow registrylog-join)
 # Runs a unit's line as its user, with the words of its file of options.
 start() {
     local line user options
-    line=$(sed -n 's/^ExecStart=//p' "$(unit "$1")")
+    # A line that goes on, and a $ that is systemd's $$.
+    line=$(sed -e ':next' -e '/\\$/ { N; s/\\\n *//; b next }' "$(unit "$1")" | sed -n 's/^ExecStart=//p' | sed 's/\$\$/$/g')
     user=$(sed -n 's/^User=//p' "$(unit "$1")")
-    options=$(sed -n 's/^EnvironmentFile=-//p' "$(unit "$1")")
+    options=$(sed -n 's/^EnvironmentFile=-\?//p' "$(unit "$1")")
     setsid runuser -u "$user" -- bash -c "set -a; . $options; umask 027; exec $line" >"/trial/$1.said" 2>&1 &
 }
 
@@ -134,12 +135,28 @@ try_metrics() {
     sed -i '/^KEEP_METRICS/s/""/"--metrics 127.0.0.1:9082"/' /etc/default/registrylog
     start registrylog
     same "waiting for the start" 0 "$(MAINPID=$$ timeout 60 /usr/share/registry/await-ready.sh --metrics 127.0.0.1:9082 && echo 0)"
+    same "waiting for it with a =" 0 "$(MAINPID=$$ timeout 60 /usr/share/registry/await-ready.sh --metrics=127.0.0.1:9082 && echo 0)"
     same "what /ready says then" ready "$(curl -s http://127.0.0.1:9082/ready)"
     has "the page of metrics" "registry_ready 1" "$(curl -s http://127.0.0.1:9082/metrics)"
     same "reading then" '{"schema":"\"string\""}' "$(curl -s http://127.0.0.1:9081/schemas/ids/3)"
     end
     same "waiting for what has ended" 1 "$(MAINPID=$! /usr/share/registry/await-ready.sh --metrics 127.0.0.1:9082 2>/trial/awaited || echo $?)"
+    same "waiting for that with a =" 1 "$(MAINPID=$! /usr/share/registry/await-ready.sh --metrics=127.0.0.1:9082 2>/trial/awaited || echo $?)"
     start registrylog
+}
+
+# A joined process whose adapter isn't named says so, with the status after which it isn't started again; an adapter gets its words.
+try_joined() {
+    local status=0
+    start registrylog-join
+    wait "$!" || status=$?
+    same "the status without an adapter" 2 "$status"
+    same "what it says" "JOIN_ADAPTER is empty: name an adapter in /etc/default/registrylog" "$(cat registrylog-join.said)"
+    echo 'JOIN_ADAPTER="/bin/echo adapter --prefix /registry"' >>/etc/default/registrylog
+    start registrylog-join
+    wait "$!"
+    same "what an adapter gets" "adapter --prefix /registry serve -- /usr/bin/registrylog join --listen 127.0.0.1:8081" "$(cat registrylog-join.said)"
+    sed -i '$d' /etc/default/registrylog
 }
 
 # A start without a log makes none.
@@ -195,7 +212,7 @@ try_removal() {
 }
 
 cd /trial
-for part in installed completion serving metrics without_log upgrade removal; do "try_$part"; done
+for part in installed completion serving metrics joined without_log upgrade removal; do "try_$part"; done
 END_OF_TRIAL
     chmod +x "$root/trial/run.sh"
 }

@@ -138,6 +138,9 @@ class OtherRegistry:
         numbers = list(self.entries(subject)) if query.get("permanent") else self.list_versions({}, subject)
         return [self.delete_version(query, subject, number) for number in numbers]
 
+    def check(self, query, body, subject):
+        raise Refusal(404, 404, "HTTP 404 Not Found")
+
     def show_level(self, query, subject=None):
         if subject not in self.levels:
             raise Refusal(404, 40408 if subject else 404, "Subject does not have subject-level compatibility configured" if subject
@@ -173,6 +176,43 @@ class OtherRegistry:
         return self.subjects[subject]
 
 
+# It clears a screen, names a window, begins a line, turns a text around, and looks like the end of what a tool says.
+HOSTILE = "\x1b[2J\x1b]0;mine\x07 \x9b31m\u202e\r\nschemas: 0, refused: 0\u2028equal: 0 versions\n\ud800"
+
+
+class HostileRegistry(OtherRegistry):
+    """A registry each of whose texts is hostile, also those that should be numbers."""
+
+    def list_subjects(self, query):
+        return [] if query.get("offset", "0") != "0" else ["stands", HOSTILE[:-1]]
+
+    def list_versions(self, query, subject):
+        return [1]
+
+    def show_version(self, query, subject, number):
+        return {"id": 1, "schema": HOSTILE, "schemaType": HOSTILE}
+
+    def show_id(self, query, number):
+        return {"schema": HOSTILE}
+
+    def look_up(self, query, body, subject):
+        if subject == "stands":
+            return {"version": HOSTILE, "id": HOSTILE}
+        raise {"new": Refusal(404, 40401, HOSTILE), "checked": Refusal(404, HOSTILE, HOSTILE)}.get(subject, Refusal(422, HOSTILE, HOSTILE))
+
+    def check(self, query, body, subject):
+        return {"is_compatible": subject == "new", "messages": [HOSTILE, {HOSTILE: HOSTILE}, None]}
+
+    def register(self, query, body, subject):
+        raise Refusal(422, HOSTILE, HOSTILE)
+
+    def show_level(self, query, subject=None):
+        return {"compatibilityLevel": HOSTILE}
+
+    def show_mode(self, query, subject=None):
+        return {"mode": HOSTILE}
+
+
 def parsed(schema):
     """A schema as JSON; this maker refuses what isn't."""
     try:
@@ -184,7 +224,7 @@ def parsed(schema):
 ROUTES = [(method, re.compile(path), name) for method, path, name in (
     ("GET", "/subjects", "list_subjects"), ("GET", "/subjects/([^/]+)/versions", "list_versions"),
     ("GET", "/subjects/([^/]+)/versions/([0-9]+)", "show_version"), ("GET", "/schemas/ids/([0-9]+)", "show_id"),
-    ("POST", "/subjects/([^/]+)", "look_up"), ("POST", "/subjects/([^/]+)/versions", "register"),
+    ("POST", "/compatibility/subjects/([^/]+)/versions", "check"), ("POST", "/subjects/([^/]+)", "look_up"), ("POST", "/subjects/([^/]+)/versions", "register"),
     ("DELETE", "/subjects/([^/]+)", "delete_subject"), ("DELETE", "/subjects/([^/]+)/versions/([0-9]+)", "delete_version"),
     ("GET", "/config", "show_level"), ("GET", "/config/([^/]+)", "show_level"), ("PUT", "/config", "set_level"),
     ("PUT", "/config/([^/]+)", "set_level"), ("DELETE", "/config/([^/]+)", "clear_level"), ("GET", "/mode", "show_mode"),
@@ -227,7 +267,7 @@ class Handler(BaseHTTPRequestHandler):
         return 404, {"error_code": 404, "message": "HTTP 404 Not Found"}
 
     def answer(self, status, body):
-        data = json.dumps(body, ensure_ascii=False).encode()
+        data = json.dumps(body).encode()
         self.send_response(status)
         self.send_header("Content-Type", "application/vnd.schemaregistry.v1+json")
         for number in range(40):

@@ -62,7 +62,8 @@ class Answer(NamedTuple):
     def reason(self):
         """What a refusal says, in one line."""
         message = self.body.get("message", "") if isinstance(self.body, dict) else ""
-        return " ".join(f"{self.code} {message}".split())
+        code = self.code if isinstance(self.code, int) else self.status
+        return " ".join(f"{code} {message}".split())
 
 
 def get(path):
@@ -80,8 +81,27 @@ def to_json(value):
 
 
 def shown(text):
-    """A name as it stands, or as a JSON string where it would break the line or couldn't be printed."""
-    return text if text.isprintable() and text and '"' not in text else json.dumps(text)
+    """A name as it stands, or as a JSON string where it would break the line or couldn't be printed. What should be a name and isn't is JSON."""
+    return text if isinstance(text, str) and text.isprintable() and text and '"' not in text else json.dumps(text)
+
+
+def number_in(body, member):
+    """A member that is a number, or None."""
+    value = body.get(member)
+    return value if isinstance(value, int) and not isinstance(value, bool) else None
+
+
+class Printed:
+    """A stream for a terminal. What a registry sent may have characters that steer one, and those are written as escapes."""
+
+    def __init__(self, stream):
+        self.stream = stream
+
+    def __getattr__(self, name):
+        return getattr(self.stream, name)
+
+    def write(self, text):
+        return self.stream.write("".join(it if it.isprintable() or it == "\n" else it.encode("unicode_escape").decode() for it in text))
 
 
 # Registries
@@ -139,9 +159,9 @@ class HttpRegistry:
         status = response.status_code
         if status in AWAY:
             after = response.headers.get("Retry-After", "")
-            raise NoAnswer(f"status {status}", float(after) if after.isdigit() else 0.0)
+            raise NoAnswer(f"status {status}", float(after) if after.isascii() and after.isdigit() else 0.0)
         if 300 <= status < 400:
-            raise RegistryError(f"{self.name} sends on to {response.headers.get('Location')}; give that URL")
+            raise RegistryError(f"{self.name} sends on to {shown(response.headers.get('Location'))}; give that URL")
         try:
             answer = Answer(status, json.loads(response.content))
         except ValueError:
@@ -415,7 +435,7 @@ def read_versions(registry, names, contents, progress):
 def extras_in(body):
     """What a version has beside an Avro schema, in words."""
     kind = body.get("schemaType") or "AVRO"
-    extras = [f"schema type {kind}"] if kind != "AVRO" else []
+    extras = [f"schema type {shown(kind)}"] if kind != "AVRO" else []
     extras += ["references"] if body.get("references") else []
     return tuple(extras + [words for member, words in VERSION_EXTRAS.items() if body.get(member) is not None])
 
@@ -517,11 +537,12 @@ def differing_values(what, a, b, ours, others):
     for scope in sorted(set(ours) | set(others), key=lambda scope: (scope is not None, scope or "")):
         one, other = ours.get(scope, "none"), others.get(scope, "none")
         if one != other and (scope is not None or "none" not in (one, other)):
-            yield Difference((what, scope), f"{what} of {scope_name(scope)}: {one} at {a.name}, {other} at {b.name}")
+            yield Difference((what, scope), f"{what} of {scope_name(scope)}: {shown(one)} at {a.name}, {shown(other)} at {b.name}")
 
 
 def run_tool(name, work, *arguments):
     """Does the work of a tool and gives its exit status. What a registry did wrong is one line on standard error."""
+    sys.stdout, sys.stderr = Printed(sys.stdout), Printed(sys.stderr)
     try:
         return work(*arguments)
     except RegistryError as fault:
