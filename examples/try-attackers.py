@@ -190,7 +190,10 @@ async def use(seconds):
     schema = {"schema": json.dumps({"type": "fixed", "name": "Beset", "size": 16})}
     while time.monotonic() < end:
         for request in (("POST", "/subjects/beset/versions", schema), ("POST", "/subjects/beset", schema), ("GET", "/subjects")):
-            status, answer, took = await asyncio.wait_for(ask(*request), 60)
+            try:
+                status, answer, took = await asyncio.wait_for(ask(*request), 60)
+            except (OSError, ValueError, asyncio.TimeoutError) as fault:
+                sys.exit(f"WRONG {request[:2]}: no answer: {fault!r}")
             if status != 200:
                 sys.exit(f"WRONG {request[:2]}: {status} {answer}")
             times.append(took)

@@ -8,17 +8,18 @@
 #   try-nginx.sh REGISTRYLOG               curl, Confluent's client for Python, and a client for Go
 #   try-nginx.sh REGISTRYLOG COMMAND ..    that command, which finds in its environment where all is
 #
-# REGISTRYLOG is the program. Where SHARE is set, the attackers are fewer. Where FIRST_LINES is set, the registry begins with the lines of that file; PYTHON may be another
-# Python, with another version of the client. The status is 1 where an answer isn't as it should be. It wants Debian's packages
-# nginx, openssl, apache2-utils, curl, python3-confluent-kafka, python3-requests, golang-go and
-# golang-github-lensesio-schema-registry-dev.
+# REGISTRYLOG is the program. Where FIRST_LINES is set, the registry begins with the lines of that file; PYTHON may be another Python, with
+# another version of the client; PORT is where nginx listens, with the registries behind; SHARE makes the attackers fewer. The status is 1
+# where an answer isn't as it should be. It wants Debian's packages nginx, openssl, apache2-utils, curl, python3-confluent-kafka,
+# python3-requests, golang-go and golang-github-lensesio-schema-registry-dev.
 set -euo pipefail
 
 here=$(dirname "$(readlink -f "${BASH_SOURCE[0]}")")
 program=$(readlink -f "$1")
 shift
 folder=$(mktemp -d)
-front=19443 writer=19481 followers=(19482 19483)
+front=${PORT:-19443}
+writer=$((front + 38)) followers=($((front + 39)) $((front + 40)))
 unset CURL_CA_BUNDLE REQUESTS_CA_BUNDLE
 export FRONT=https://localhost:$front LOGIN=someone:secret READER=reader:other CERTIFICATE=$folder/registry.crt
 declare -A processes=()

@@ -1,8 +1,9 @@
 #!/bin/bash
-# Makes the package, installs it in a fresh Debian, and looks at the outcome of each step: what is there, completion, serving by the unit's
-# line as its user, a kill, a start without a log, an upgrade beside a kept log and the way back, removal and purging: docs/DEPLOY.md.
+# Makes the package, installs it in a fresh Debian, and looks at the outcome of each step: of which tree a gate's log has to be, whose the
+# parts are, what is there, completion, serving by the unit's line as its user, a kill, a start without a log, an upgrade beside a kept log and the way back, removal and purging: docs/DEPLOY.md.
 #
 #   try-package.sh            makes it twice, in this clone and in another, and says whether both are the same; then tries it
+#   try-package.sh made       makes it so, and doesn't install it
 #   try-package.sh PACKAGE    tries that one
 #
 # It runs as root, and wants Debian's packages mmdebstrap, systemd-container and lintian, and a network. Where FRESH_ROOT is set, a
@@ -24,12 +25,55 @@ make_twice() {
     mkdir "$clone/out"
     cp -p "$top"/out/registry{log,d}{,.built} "$clone/out/"
     (umask 077 && TZ=Asia/Tokyo LANG=C "$clone/package")
-    cmp "$top"/out/registry_*.deb "$clone"/out/registry_*.deb || wrong "two packages of one commit differ"
+    cmp "$top"/out/registry_*~unproved_amd64.deb "$clone"/out/registry_*~unproved_amd64.deb || wrong "two packages of one commit differ"
     echo "ok the package is the same again"
     echo >>"$clone/README.md"
     ! "$clone/package" 2>"$folder/said" || wrong "a changed tree was packed"
     grep -q 'the tree was changed' "$folder/said" || wrong "a changed tree: $(cat "$folder/said")"
     echo "ok a changed tree is refused"
+}
+
+# A package has the version alone only with the gate's log of its tree.
+try_gates() {
+    local top=$folder/clone version log=$folder/gate.log
+    git -C "$top" checkout -q README.md
+    version=$(<"$top/VERSION")
+    [ -f "$top/out/registry_$version~unproved_amd64.deb" ] || wrong "a package without a gate's log: $(ls "$top/out")"
+    refuse_gate "a log of another tree" "another tree" 'tree: 0123' '9 passed, 0 failed'
+    refuse_gate "a log without a tree" "another tree" '9 passed, 0 failed'
+    refuse_gate "a gate that failed" "isn't that of a whole rt ci" "tree: $("$top/packaging/tree-sum")" '8 passed, 1 failed'
+    printf '%s\n' 'commit: 4567' "tree: $("$top/packaging/tree-sum")" '9 passed, 0 failed' >"$log"
+    "$top/package" --gate "$log"
+    [ "$(dpkg-deb -f "$top/out/registry_${version}_amd64.deb" Version)" = "$version" ] || wrong "a package with a gate's log"
+    dpkg-deb --fsys-tarfile "$top/out/registry_${version}_amd64.deb" | tar -xO ./usr/share/doc/registry/PROVED |
+        grep -qx 'gate: 9 passed, 0 failed commit: 4567' || wrong "what PROVED says of the gate"
+    echo "ok only the gate's log of this tree gives a version without ~unproved"
+}
+
+# refuse_gate WHAT SAID LINE ..
+refuse_gate() {
+    printf '%s\n' "${@:3}" >"$folder/gate.log"
+    ! "$folder/clone/package" --gate "$folder/gate.log" 2>"$folder/said" || wrong "$1 was taken"
+    grep -q -- "$2" "$folder/said" || wrong "$1: $(cat "$folder/said")"
+}
+
+# Each crate of the kit that crates.txt names, and that has a notice beside it, has it in the copyright file.
+try_notices() {
+    local kit crate count=0 said=$folder/copyright
+    kit=$(dirname "$(dirname "$(readlink -f "$(command -v rt)")")")
+    dpkg-deb --fsys-tarfile "$package" | tar -xO ./usr/share/doc/registry/copyright >"$said"
+    for crate in $(sed 's/#.*//; s/.*://' "$top/crates.txt" | tr ' ' '\n' | sort -u); do
+        [ ! -d "$top/crates/$crate" ] && compgen -G "$kit/rattle/$crate/LICENSE*" >/dev/null || continue
+        grep -qxF "Files: kit/$crate/*" "$said" || wrong "the notice of $crate isn't in the package"
+        count=$((count + 1))
+    done
+    [ "$count" -gt 5 ] || wrong "only $count crates have notices"
+    # The words of the notices, without the form of the lines.
+    tr -d ' .\n' <"$said" >"$said.words"
+    for crate in serde_json matchit http mio; do
+        grep -qF "$(cat "$kit/rattle/$crate"/LICENSE{,-MIT} 2>/dev/null | tr -d ' .\n')" "$said.words" || wrong "the notice of $crate isn't whole"
+    done
+    echo "ok the notices of $count crates that crates.txt names are there, and those of the crates below"
 }
 
 look_over() {
@@ -217,13 +261,16 @@ END_OF_TRIAL
     chmod +x "$root/trial/run.sh"
 }
 
-if [ $# = 0 ]; then
+if [ "${1:-made}" = made ]; then
     make_twice
-    package=$top/out/registry_$(<"$top/VERSION")_amd64.deb
+    package=$top/out/registry_$(<"$top/VERSION")~unproved_amd64.deb
+    try_gates
+    try_notices
 else
     package=$(readlink -f "$1")
 fi
 look_over
+[ "${1:-}" != made ] || exit 0
 make_root "$package" curl,procps
 write_trial
 inside bash -c 'apt-get -q update && DEBIAN_FRONTEND=noninteractive apt-get install -qy /trial/registry.deb' >"$folder/installing" ||
