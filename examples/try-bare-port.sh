@@ -1,7 +1,7 @@
 #!/bin/bash
-# Shows what a web page can do with a registry's port on a workstation, and tries the rule by which docs/DEPLOY.md closes that port for all but
-# nginx: try-bare-port.sh REGISTRYLOG. It has a network of its own, runs as root, and wants Debian's packages nftables, iproute2, curl and
-# nginx (for its user). The status is 1 where something isn't as it should be.
+# Shows what a web page can do with a registry's port on a workstation, and tries only-nginx.nft, which closes that port for all but nginx:
+# try-bare-port.sh REGISTRYLOG. It has a network of its own, runs as root, and wants Debian's packages nftables, iproute2, curl and nginx,
+# for its user: docs/DEPLOY.md. The status is 1 where something isn't as it should be.
 set -euo pipefail
 [ "${2:-}" = inside ] || exec unshare --net "$(readlink -f "${BASH_SOURCE[0]}")" "$(readlink -f "$1")" inside
 here=$(dirname "$(readlink -f "${BASH_SOURCE[0]}")")
@@ -22,9 +22,7 @@ same "what a page reads by a name of its own" '["foreign"]' "$(ask nobody 127.0.
 same "a request without Host" '["foreign"]' "$(ask nobody 127.0.0.1 -H 'Host:')"
 same "a request with two" '["foreign"]' "$(ask nobody 127.0.0.1 -H 'Host: a' -H 'host: b')"
 
-# The rule as the page has it.
-sed -n '/^nft -f/,/^```/p' "$here/../docs/DEPLOY.md" | grep -v '^```' >"$folder/rule"
-bash "$folder/rule"
+nft -f "$here/only-nginx.nft"
 path=/subjects/other/versions
 same "what a page writes then" 'no answer: 7' "$(ask nobody 127.0.0.1 "${page[@]}")"
 path=/subjects

@@ -1,9 +1,9 @@
 #!/bin/bash
 # Brings up a registry, two followers and nginx with examples/nginx.conf, in a folder of its own and at other ports, and has
-# clients use them over TLS with a password: methods with and without one, who may write and who may only read, bodies of all lengths, other
-# sites' pages, nginx's own answers, reads while followers and the writer are killed, that each command goes to the writer, once, and a client
-# beside attackers (try-attackers.py), with several workers of nginx and with one: docs/DEPLOY.md. It was run with nginx 1.22, curl 7.88 and
-# Confluent's client 1.7.0.
+# clients use them over TLS with a password: methods with and without one, who may write and who may only read, bodies of all lengths,
+# other sites' pages, nginx's own answers, reads while followers and the writer are killed, that each command goes to the writer, once, and
+# a client beside attackers (try-attackers.py), with several workers of nginx and with one; most of it also with examples/nginx-joined.conf:
+# docs/DEPLOY.md. It was run with nginx 1.22, curl 7.88 and Confluent's client 1.7.0.
 #
 #   try-nginx.sh REGISTRYLOG               curl, Confluent's client for Python, and a client for Go
 #   try-nginx.sh REGISTRYLOG COMMAND ..    that command, which finds in its environment where all is
@@ -87,7 +87,7 @@ make_files() {
     echo "${LOGIN%:*} true;" >"$folder/registry.writers"
 }
 
-# start_nginx WORKERS
+# start_nginx WORKERS [SETTINGS]
 start_nginx() {
     local spool='proxy_read_timeout 10s; '
     for name in client_body proxy fastcgi uwsgi scgi; do spool+="${name}_temp_path $folder/$name; "; done
@@ -98,7 +98,7 @@ start_nginx() {
         -e "/upstream registry_followers/,/}/ s#127.0.0.1:8081;#127.0.0.1:${followers[0]}; server 127.0.0.1:${followers[1]};#" \
         -e "s#listen 443 #listen 127.0.0.1:$front #" -e "s#registry.example#localhost#" \
         -e "s#/etc/nginx/registry#$folder/registry#" -e "s#/usr/share#$folder/share#" \
-        "$here/nginx.conf" >"$folder/nginx.conf"
+        -e "s#10\.0\.0\.[0-9]*:8081#127.0.0.1:$writer#" "$here/${2:-nginx.conf}" >"$folder/nginx.conf"
     nginx -e "$folder/nginx.err" -c "$folder/nginx.conf"
 }
 
@@ -193,7 +193,8 @@ try_roles() {
         same "a reader's registration by $path" "$refusal" "$(read_by ask --path-as-is --json "$long" "$FRONT$path")"
     done
     same "what a reader changed" "$before" "$(get '/subjects?deleted=true')"
-    same "somebody's command in a reader's name" 401 "$("${bare[@]}" -w '%{http_code}' --user "${READER%:*}:wrong" -X DELETE "$FRONT/subjects/role")"
+    same "somebody's command in a reader's name" 401 \
+        "$("${bare[@]}" -w '%{http_code}' --user "${READER%:*}:wrong" -X DELETE "$FRONT/subjects/role")"
     same "the inner question from outside" 404 "$("${mine[@]}" -w '%{http_code}' "$FRONT/may_write")"
 }
 
@@ -376,6 +377,15 @@ try_attackers() {
     same "what nginx ran out of" '' "$(grep -m 1 'not enough' "$folder/nginx.err" || true)"
 }
 
+# The settings before joined processes have the same roles and refusals. Here one process is all three.
+try_joined() {
+    stop_nginx
+    start_nginx auto nginx-joined.conf
+    for part in passwords requests roles settings refusals sizes browsers; do "try_$part"; done
+    stop_nginx
+    start_nginx auto
+}
+
 # ---- other clients
 
 try_python() {
@@ -483,6 +493,8 @@ for workers in auto 1; do
     echo "attackers, workers: $workers"
     try_attackers "$workers"
 done
+try_joined
+echo "joined: done"
 try_python
 try_go
 try_failures

@@ -49,7 +49,8 @@ names() { openssl x509 -in /etc/nginx/registry.crt -noout -ext subjectAltName | 
 
 try_refused() {
     local host
-    for host in https://registry.here registry.here/ a/b '' ' ' 'a b' 'a;b' 'a"b' '&' '\1' -a a- .a a..b 256.1.1.1 1.2.3 1.2.3.4.5 ::1 a_b "$(printf 'a%.0s' {1..65})"; do
+    for host in https://registry.here registry.here/ a/b '' ' ' 'a b' 'a;b' 'a"b' '&' '\1' -a a- .a a..b 256.1.1.1 1.2.3 1.2.3.4.5 ::1 a_b \
+        "$(printf 'a%.0s' {1..65})"; do
         refused "the host '$host'" secret "$host" someone
     done
     for host in '' 'a b' a:b 'a;' '#a' '~a' '-a' include default '"' "a'b"; do
