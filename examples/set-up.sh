@@ -6,7 +6,7 @@
 #
 # HOST is the name or the IPv4 address by which clients reach this machine, and USER who may ask, and write unless the last word is read. The
 # password is read from standard input. nginx's settings are put in place of those that were there only once nginx takes them; the old ones
-# stay beside them, as nginx.conf.before.
+# stay beside them as nginx.conf.before, and still older ones as nginx.conf.before.~1~ and so on.
 set -euo pipefail
 fail() { echo "set-up.sh: $*" >&2; exit 2; }
 
@@ -55,7 +55,7 @@ sed "s/registry\.example/$host/" nginx.conf >"$settings"
 nginx -t -c "$settings" || fail "nginx doesn't take these settings, and /etc/nginx/nginx.conf is as it was"
 chmod 644 "$settings"
 if [ -f /etc/nginx/nginx.conf ] && ! cmp -s "$settings" /etc/nginx/nginx.conf; then
-    cp -p /etc/nginx/nginx.conf /etc/nginx/nginx.conf.before
+    cp -p --backup=numbered /etc/nginx/nginx.conf /etc/nginx/nginx.conf.before
 fi
 mv "$settings" /etc/nginx/nginx.conf
 systemctl enable nginx

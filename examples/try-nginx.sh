@@ -381,7 +381,7 @@ try_attackers() {
 try_joined() {
     stop_nginx
     start_nginx auto nginx-joined.conf
-    for part in passwords requests roles settings refusals sizes browsers; do "try_$part"; done
+    for part in passwords roles settings refusals sizes browsers; do "try_$part"; done
     stop_nginx
     start_nginx auto
 }

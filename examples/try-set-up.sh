@@ -107,6 +107,8 @@ try_rest() {
     rm -f /etc/nginx/registry.crt
     set_up secret 10.0.0.1 someone
     same "the certificate's address" 'IP Address:10.0.0.1' "$(names)"
+    same "the host in the settings before" 'server_name registry.here;' "$(grep -o 'server_name .*' /etc/nginx/nginx.conf.before)"
+    same "the settings before those" '# what was there' "$(cat /etc/nginx/nginx.conf.before.~1~)"
     before=$(sha256sum </etc/nginx/nginx.conf)
     echo 'no types' >/etc/nginx/mime.types
     set_up secret other.here someone || status=$?
