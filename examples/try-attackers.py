@@ -168,7 +168,7 @@ def hold_half_hellos(counts):
         for _ in range(50):
             line = socket.create_connection(("127.0.0.1", FRONT.port), source_address=("127.0.0.4", 0))
             line.sendall(bytes.fromhex("1603010200010001fc0303") + bytes(20))
-            lines.append((time.monotonic() + 4.5, line))
+            lines.append((time.monotonic() + 9, line))
         while lines and (len(lines) > 1400 or lines[0][0] < time.monotonic()):
             lines.popleft()[1].close()
         counts[OPEN] = len(lines)
