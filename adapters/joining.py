@@ -1,6 +1,8 @@
 """What every adapter does, whichever its store: it starts a registry process, gives it the log, and carries its requests to the
 store until it is known what became of them. PROTOCOL.md says the rules; a store's own program says how it appends and reads."""
 import collections
+import contextlib
+import fcntl
 import queue
 import secrets
 import subprocess
@@ -16,6 +18,8 @@ Base = collections.namedtuple("Base", "next token rules pieces")
 
 KEPT, BEHIND, DECLINED, LOST = b"kept\n", b"behind\n", b"declined\n", b"lost\n"
 PAUSE = 0.05            # seconds between two tries of one request
+AHEAD = 1 << 20         # bytes that wait in the pipe to the process: it decides them while the store is asked for more
+F_SETPIPE_SZ = 1031     # Linux; the module has it from Python 3.10 on
 REMEMBERED = 100        # how many answers to appends say whether this process is overtaken often
 
 
@@ -99,6 +103,8 @@ class Process:
             self.child = subprocess.Popen(command, stdin=subprocess.PIPE, stdout=subprocess.PIPE)
         except OSError as fault:
             raise Broken("the process doesn't start: %s" % fault)
+        with contextlib.suppress(OSError):
+            fcntl.fcntl(self.child.stdin, F_SETPIPE_SZ, AHEAD)
         threading.Thread(target=self.listen, daemon=True).start()
 
     def listen(self):

@@ -1,10 +1,10 @@
 """Appends by a store's own calls what no adapter would ask for, and says what was appended.
 
     direct.py PROGRAM CLASS WORDS.."""
-import importlib.machinery
-import importlib.util
-import os
 import sys
+
+from long_logs import fill_etcd
+from programs import load
 
 
 def says_overtaken(joining):
@@ -27,13 +27,28 @@ def trims_between(store, another):
         sys.exit("a base was put in whose pieces a trim had dropped")
 
 
+def reads_little(store, at, token):
+    """A long log is read by few requests, each of which has etcd count no more slots than it may give."""
+    fill_etcd(store, at, token, 2000)
+    counts, end, post = [], at + 2000, store.post
+
+    def noted(path, message):
+        answer = post(path, message)
+        counts.extend(int((one.get("response_range") or one.get("responseRange")).get("count", 0)) for one in answer["responses"])
+        return answer
+    store.post = noted
+    while at < end:
+        for batch in store.read(at, token):
+            if (batch.first, batch.before) != (at, token):
+                sys.exit("batch %s doesn't follow %d %s" % (batch[:4], at, token))
+            at, token = batch.next, batch.token
+    if store.read(at, token) or max(counts) > 256 or len(counts) > 45:
+        sys.exit("to read 2000 batches etcd counted %s" % counts)
+
+
 def main():
     path, name = sys.argv[1:3]
-    sys.path.insert(0, os.path.dirname(path))
-    sys.dont_write_bytecode = True
-    loader = importlib.machinery.SourceFileLoader("program", path)
-    program = importlib.util.module_from_spec(importlib.util.spec_from_loader("program", loader))
-    loader.exec_module(program)
+    program = load(path)
     options = program.make_parser().parse_args(sys.argv[3:] + ["dump"])
     store = getattr(program, name)(options)
     base = store.begin()
@@ -62,6 +77,7 @@ def main():
     says_overtaken(sys.modules["joining"])
     if name == "Etcd":
         trims_between(store, another)
+        reads_little(store, at + 4, "seven")
 
 
 main()

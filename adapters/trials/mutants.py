@@ -23,6 +23,8 @@ MUTANTS = {
     "an append that looks at its offset alone": (
         "join-etcd", 'self.is_value("tail", "%d %s" % (batch.first, batch.before)), ', "",
         ["etcd:what_follows_what"]),
+    "reads that count all there is": (
+        "join-etcd", "slot(at + MOST)", '"slot0"', ["etcd:what_follows_what"]),
     "rows that follow nothing": (
         "join-postgres", ",\n    FOREIGN KEY (before, before_last) REFERENCES registry_batch (token, last)", "",
         ["postgres:what_follows_what"]),

@@ -6,6 +6,7 @@ import subprocess
 import sys
 import time
 
+from programs import CLASSES
 from seats import HERE, expect
 from stores import Etcd, Postgres, wait_for
 from trial import Log, case, rules_command
@@ -16,9 +17,6 @@ OWN = set()         # cases that have a store of their own
 def own(function):
     OWN.add(function)
     return function
-
-
-CLASSES = {"etcd": "Etcd", "postgres": "Postgres", "kafka": "Kafka"}
 
 
 @case("etcd", "postgres", "kafka")
