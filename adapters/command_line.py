@@ -4,8 +4,10 @@ import signal
 import subprocess
 import sys
 import time
+import traceback
 
-from joining import Adapter, Anew, Broken, Declined, NotDone, Unreachable, follow, rules_of, say
+from faults import Anew, Broken, Declined, NotDone, Unreachable
+from joining import Adapter, follow, rules_of, say
 from logs import offset_of, read_log
 from place import make_place
 
@@ -66,7 +68,19 @@ def run(parser, make_store):
     except Unreachable as fault:
         say("error: store unreachable: %s" % fault)
         status = 1
+    except Exception as fault:                  # nonsense that nobody thought of: one line, and where it was met
+        place = traceback.extract_tb(fault.__traceback__)[-1]
+        say("error: %s: %s (%s, line %d)" % (type(fault).__name__, " ".join(str(fault).split()), place.filename, place.lineno))
+        status = 1
     sys.exit(status)
+
+
+def opened(option, path):
+    """A file that an option names, to be read."""
+    try:
+        return open(path, "rb")
+    except OSError as fault:
+        raise Broken("%s %s: %s" % (option, path, fault.strerror))
 
 
 def patiently(do, options, faults=Unreachable):

@@ -10,6 +10,9 @@ import sys
 import threading
 import time
 
+from faults import Anew, Broken, Declined, NotDone, Unreachable
+from logs import check_base, fault_in
+
 # first: the offset of its first line; next: the one behind its last; token: no other request has it; before: the token of what it
 # follows; lines: bytes, each line with its LF.
 Batch = collections.namedtuple("Batch", "first next token before lines")
@@ -20,27 +23,8 @@ KEPT, BEHIND, DECLINED, LOST = b"kept\n", b"behind\n", b"declined\n", b"lost\n"
 PAUSE = 0.05            # seconds between two tries of one request
 AHEAD = 1 << 20         # bytes that wait in the pipe to the process: it decides them while the store is asked for more
 F_SETPIPE_SZ = 1031     # Linux; the module has it from Python 3.10 on
+NOBODYS = b'batch\n%d\t{"keytype":"NOT_A_LINE","magic":0}\tnull\n\n'    # given in place of a batch that isn't lines
 REMEMBERED = 100        # how many answers to appends say whether this process is overtaken often
-
-
-class Unreachable(Exception):
-    """The store didn't answer: what was asked may have happened, and may happen yet."""
-
-
-class NotDone(Unreachable):
-    """It didn't happen and never will: it wasn't sent, or the store says so. Another try may do it."""
-
-
-class Declined(Exception):
-    """The store says that it doesn't do it: it is too large, there are no rights, or no room."""
-
-
-class Anew(Exception):
-    """This adapter can't go on, and one that begins anew can: what it needs was trimmed, say, since a newer base stands for it."""
-
-
-class Broken(Exception):
-    """A person has to look: there is no log, it isn't the one that was given, or a rule of PROTOCOL.md was broken."""
 
 
 def say(text):
@@ -90,6 +74,9 @@ def follow(store, base):
         for batch in batches:
             if (batch.first, batch.before) != (at, token):
                 raise Broken("the batch at offset %d doesn't follow the one before it" % batch.first)
+            fault = fault_in(batch.lines, batch.first, batch.next)
+            if fault:
+                raise Broken("the batch at offset %d isn't a log's: %s" % (at, fault))
             yield batch
             at, token = batch.next, batch.token
 
@@ -164,6 +151,7 @@ class Adapter:
         self.events = queue.SimpleQueue()                   # requests, "news", and None once the process has ended
         self.has_news = threading.Event()
         self.is_down = False                                # the last thing that was tried found no store
+        self.is_over = False                                # a batch isn't lines: nothing is given behind it, or taken
         self.overtaken = collections.deque(maxlen=REMEMBERED)
         self.is_often_overtaken = False
 
@@ -176,6 +164,7 @@ class Adapter:
         if rules != base.rules:
             raise Broken("this log is of rules %d, and the process has rules %d: processes of other rules may not write to it. Go on with "
                          "the program that was there, or move the log to a new place (README.md, Upgrades)" % (base.rules, rules))
+        check_base(base.pieces, base.next)
         self.next, self.tail = base.next, base.token
         self.process = Process(self.command, self.events)
         try:
@@ -233,10 +222,18 @@ class Adapter:
 
     def take(self, batches):
         for batch in batches:
+            fault = fault_in(batch.lines, batch.first, batch.next)
+            if fault:
+                say("batch at offset %d isn't a log's: %s. A person has to look" % (self.next, fault))
+                self.process.give(NOBODYS % self.next)
+                self.is_over = True
+                return
             self.stands(batch)
             self.process.give(b"batch\n" + batch.lines + b"\n")
 
     def read(self):
+        if self.is_over:
+            return []
         try:
             return self.store.read(self.next, self.tail)
         except Declined as fault:
@@ -265,12 +262,14 @@ class Adapter:
 
     def check(self):
         try:
-            return BEHIND if self.catch_up() else KEPT
+            return BEHIND if self.catch_up() else DECLINED if self.is_over else KEPT
         except Unreachable as fault:
             self.lose_sight(fault)
             return DECLINED
 
     def append(self, lines):
+        if self.is_over:
+            return DECLINED
         batch = self.batch_of(lines)
         if batch.first == self.next and self.is_down and self.check() == DECLINED:
             return DECLINED
@@ -327,7 +326,7 @@ class Adapter:
             self.take(batches)
             return BEHIND, None
         if cause is None:
-            raise Broken("the store refuses the batch at offset %d, and has nothing there" % batch.first)
+            cause = "the store refuses it, and has nothing there"
         if was_tried:                       # that try may be done yet
             return None, cause
         say("batch at offset %d declined: %s" % (batch.first, cause))

@@ -2,7 +2,7 @@
 import collections
 import json
 
-from joining import Broken
+from faults import Broken
 
 # next: the offset behind it; text: its lines, each with its LF, without the empty line at its end.
 Log = collections.namedtuple("Log", "next text")
@@ -20,9 +20,44 @@ def offset_of(field):
     return int(field)
 
 
+def fault_in(lines, first, following):
+    """What is wrong with a batch's lines, where they aren't a log's of the offsets from the first one up to before the following one."""
+    if not is_utf8(lines):
+        return "it isn't UTF-8"
+    rows = lines.split(b"\n")
+    if rows.pop() != b"":
+        return "its last line is cut"
+    if not rows or len(rows) != following - first:
+        return "it has %d lines, and its offsets are from %d up to %d" % (len(rows), first, following - 1)
+    for offset, row in enumerate(rows, first):
+        if not row.startswith(b"%d\t" % offset) or row.count(b"\t") != 2 or len(row) > LONGEST or offset > GREATEST_OFFSET:
+            return "its line %d isn't one of offset %d" % (offset - first + 1, offset)
+    return None
+
+
+def check_base(pieces, following):
+    """Has a base in a store be lines of a log that end before the following offset."""
+    text = b"".join(pieces)
+    rows = text.split(b"\n")
+    if rows.pop() != b"" or not is_utf8(text) or len(rows) > MOST_LINES:
+        raise Broken("the base in the store isn't a log")
+    if max((end_of(row, number) for number, row in enumerate(rows)), default=0) > following:
+        raise Broken("the base in the store ends behind offset %d" % following)
+
+
+def is_utf8(text):
+    try:
+        text.decode()
+    except UnicodeDecodeError:
+        return False
+    return True
+
+
 def read_log(text):
     """The log that these bytes are. What stands behind an empty line is refused, and so is a log that owes a mark of ids, since no process
     would begin with it."""
+    if not is_utf8(text):
+        raise Broken("the log isn't UTF-8")
     lines = text.split(b"\n")
     if lines.pop() != b"":
         raise Broken("the log's last line is cut")

@@ -4,7 +4,7 @@ import json
 import secrets
 import urllib.parse
 
-from joining import Broken
+from faults import Broken
 
 UNUSED = json.dumps({"type": "fixed", "name": "registry_base_place", "size": 1})
 

@@ -25,6 +25,12 @@ MUTANTS = {
         ["etcd:what_follows_what"]),
     "reads that count all there is": (
         "join-etcd", "slot(at + MOST)", '"slot0"', ["etcd:what_follows_what"]),
+    "an answer that may drip": (
+        "deadline.py", "left = self.until - time.monotonic()", "left = 2", ["etcd:drips"]),
+    "lines that aren't looked at": (
+        "joining.py", "            if fault:\n                say(", "            if False:\n                say(", ["etcd:not_lines"]),
+    "messages that aren't looked at": (
+        "join-kafka", "if fault_in(batch.lines, batch.first, batch.next) is None:", "if True:", ["kafka:not_lines"]),
     "rows that follow nothing": (
         "join-postgres", ",\n    FOREIGN KEY (before, before_last) REFERENCES registry_batch (token, last)", "",
         ["postgres:what_follows_what"]),

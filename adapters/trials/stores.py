@@ -276,7 +276,8 @@ class Gate:
     """A way to a store. Once it is told a mark, data to the store with that mark in it are treated otherwise:
     hold: they wait until they are released, also where who sent them is gone;
     mute: they go on, and instead of the answer the connection ends;
-    deny: they go on, and a made-up answer comes instead of the store's."""
+    deny: they go on, and a made-up answer comes instead of the store's;
+    drip: they go on, and the answer comes a byte at a time."""
 
     def __init__(self, trial, port, answer=b""):
         self.port_behind, self.answer = port, answer
@@ -335,7 +336,11 @@ class Gate:
                     near.sendall(self.answer)
                 if not data or act["now"] in ("mute", "deny"):
                     break
-                near.sendall(data)
+                for byte in data if act["now"] == "drip" else ():
+                    near.sendall(bytes([byte]))
+                    time.sleep(0.2)
+                if act["now"] != "drip":
+                    near.sendall(data)
             near.shutdown(socket.SHUT_RDWR)
         except OSError:
             pass

@@ -116,8 +116,9 @@ def rights_and_tls(trial, kind):
     reader.wait_until(lambda: reader.next == 1)
     expect(reader.append() == "declined" and reader.check() == "kept", reader.said())
     for wrong, status in ((words("writer", password="wrong"), 2), (words("writer", prefix="/other"), 2),
-                          (words("writer", more=["--cacert", stranger + ".crt", *tls[2:]]), 1), (words("writer", more=tls[:2]), 1)):
-        Log(trial, wrong, "").run("dump", status=status)
+                          (words("writer", more=["--cacert", stranger + ".crt", *tls[2:]]), 1), (words("writer", more=tls[:2]), 2)):
+        said = Log(trial, wrong, "").run("dump", status=status)[1]
+    expect("wants a client's certificate" in said, said)
     log.agree([writer, reader])
 
 
