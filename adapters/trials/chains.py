@@ -305,6 +305,18 @@ def checks(trial, kind):
         reader.answer()
         expect(reader.next == writer.next, "answered before what was acknowledged was given")
     log.agree([writer, reader])
+    if kind == "kafka":                 # a question for the topic's end doesn't wait for the consumer that reads: that takes 0.1 s
+        expect(fastest(reader.check) < 0.05 and fastest(writer.append) < 0.05, "checks or appends wait")
+
+
+def fastest(ask):
+    """The least of ten times, since the machine may be busy."""
+    times = []
+    for _ in range(10):
+        began = time.monotonic()
+        expect(ask() == "kept", "not kept")
+        times.append(time.monotonic() - began)
+    return min(times)
 
 
 @case(*STORES)

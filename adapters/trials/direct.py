@@ -1,7 +1,9 @@
 """Appends by a store's own calls what no adapter would ask for, and says what was appended.
 
     direct.py PROGRAM CLASS WORDS.."""
+import concurrent.futures
 import sys
+import types
 
 from long_logs import fill_etcd
 from programs import load
@@ -25,6 +27,35 @@ def trims_between(store, another):
     another.trim()
     if store.succeeds([*are_there], [store.put("base", "1 token " + name)]):
         sys.exit("a base was put in whose pieces a trim had dropped")
+
+
+def refuses_what_forgets(program, store):
+    """A topic that forgets is refused as its brokers tell of it; where they don't, there is a warning."""
+    told, said = {}, []
+
+    class Admin:
+        def __init__(self, settings):
+            pass
+
+        @staticmethod
+        def describe_configs(resources, **more):
+            answer = concurrent.futures.Future()
+            answer.set_result({name: types.SimpleNamespace(value=value) for name, value in told.items()})
+            return {resources[0]: answer}
+    store.check_topic()                 # of brokers that don't say: this once said a warning, of theirs
+    program.AdminClient, program.say = Admin, said.append
+    keeps = {"cleanup.policy": "delete", "retention.ms": "-1", "retention.bytes": "-1", "segment.ms": "7"}
+    for name, value in (("", ""), ("cleanup.policy", "compact"), ("cleanup.policy", "compact,delete"), ("retention.ms", "604800000"),
+                        ("retention.bytes", "1000000")):
+        told.clear()
+        told.update({**keeps, name: value})
+        try:
+            store.check_topic()
+            refusal = ""
+        except program.Broken as fault:
+            refusal = str(fault)
+        if bool(name) != ("%s=%s" % (name, value) in refusal and bool(refusal)) or said:
+            sys.exit("%s=%s: %s %s" % (name, value, refusal, said))
 
 
 def reads_little(store, at, token):
@@ -75,6 +106,8 @@ def main():
     if tokens != ["one", "seven"]:
         sys.exit("the log has %s" % tokens)
     says_overtaken(sys.modules["joining"])
+    if name == "Kafka":
+        refuses_what_forgets(program, store)
     if name == "Etcd":
         trims_between(store, another)
         reads_little(store, at + 4, "seven")

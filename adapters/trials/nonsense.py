@@ -33,7 +33,7 @@ def not_lines(trial, kind):
     log = trial.new_log(kind)
     seat = log.seats(1)[0]
     expect(seat.append() == "kept", seat.said())
-    put_behind(trial, kind, log, b"ready\n")
+    put_behind(trial, kind, log, b"7\tready\tx\n")
     fault_in = sys.modules["logs"].fault_in
     expect(all(fault_in(lines, 1, 2) for lines in BAD) and fault_in(note(1, "é"), 1, 2) is None, "lines that are taken, or aren't")
     if kind == "kafka":
@@ -41,7 +41,7 @@ def not_lines(trial, kind):
         return
     seats = [seat, log.seat().ready()]
     for one in seats:
-        one.wait_until(lambda one=one: one.next == 2)
+        one.wait_until(lambda one=one: one.next == 2, 20)
         expect(b"NOT_A_LINE" in one.log[-1] and "batch at offset 1 isn't a log's" in one.said(), one.log, one.said())
         expect(one.append() == "declined" and one.check() == "declined" and one.adapter.poll() is None, one.said())
     lines, said = log.run("dump", status=2)
