@@ -24,7 +24,7 @@ sys.path[:0] = [HERE, os.path.join(ADAPTERS, "..", "benches", "join")]
 import cluster
 import stores
 import trial
-from registries import Joined, expect, free_port, strike
+from registries import Joined, Wrong, expect, free_port, strike
 
 CLIENTS, PROCESSES = 6, 4
 PAUSE = 0.6         # seconds at most between two requests of a client
@@ -45,11 +45,11 @@ class Store:
 
     def strike(self, chance):
         """Does something to the brokers, and says what, and how it ends."""
-        one, library, topic = chance.randrange(1, 4), self.brokers.library, b"registry"
+        one = chance.randrange(1, 4)
         strikes = [("a broker stopped", lambda: self.brokers.stop(one), lambda: self.brokers.go_on(one)),
                    ("all brokers stopped", lambda: self.brokers.stop(1, 2, 3), lambda: self.brokers.go_on(1, 2, 3)),
                    ("answers late", lambda: self.brokers.answer_after(chance.choice([200, 1000, 4000])), lambda: self.brokers.answer_after(0)),
-                   ("the leader moved", lambda: library.rd_kafka_mock_partition_set_leader(self.brokers.cluster, topic, 0, one), lambda: None)]
+                   ("the leader moved", lambda: self.brokers.lead("registry", one), lambda: None)]
         name, do, mend = chance.choice(strikes)
         do()
         return name, mend
@@ -116,6 +116,8 @@ def main():
     one = Trial(os.path.abspath(sys.argv[1]), float(sys.argv[2]) if len(sys.argv) == 3 else 600, "kafka", folder)
     try:
         one.run()
+    except Wrong as fault:
+        one.bad(fault)
     finally:
         one.end()
     if one.wrong:

@@ -31,6 +31,8 @@ MUTANTS = {
         "joining.py", "            if fault:\n                say(", "            if False:\n                say(", ["etcd:not_lines"]),
     "messages that aren't looked at": (
         "join-kafka", "if fault_in(batch.lines, batch.first, batch.next) is None:", "if True:", ["kafka:not_lines"]),
+    "a leader that isn't looked for again": (
+        "join-kafka", "            self.asker.list_topics(self.name, timeout=self.timeout)", "            pass", ["kafka:leader_moves"]),
     "rows that follow nothing": (
         "join-postgres", ",\n    FOREIGN KEY (before, before_last) REFERENCES registry_batch (token, last)", "",
         ["postgres:what_follows_what"]),

@@ -101,6 +101,12 @@ class Etcd:
         found = self.ask(0, "/v3/kv/range", {"key": base64.b64encode(key.encode()).decode()}).get("kvs", [])
         return base64.b64decode(found[0]["value"]) if found else None
 
+    def names(self, prefix):
+        """The keys that begin so."""
+        begin, end = (base64.b64encode(text.encode()).decode() for text in (prefix, prefix[:-1] + chr(ord(prefix[-1]) + 1)))
+        found = self.ask(0, "/v3/kv/range", {"key": begin, "range_end": end, "keys_only": True}).get("kvs", [])
+        return [base64.b64decode(one["key"]).decode() for one in found]
+
     def drop(self, key):
         self.ask(0, "/v3/kv/deleterange", {"key": base64.b64encode(key.encode()).decode()})
 
@@ -263,6 +269,10 @@ class Brokers:
     def go_on(self, *numbers):
         for number in numbers:
             self.library.rd_kafka_mock_broker_set_up(self.cluster, number)
+
+    def lead(self, topic, number):
+        """Makes this broker the leader of a topic."""
+        self.library.rd_kafka_mock_partition_set_leader(self.cluster, topic.encode(), 0, number)
 
     def answer_after(self, milliseconds):
         """Has all brokers do what they are asked at once, and answer so much later."""

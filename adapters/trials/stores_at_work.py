@@ -173,6 +173,20 @@ def rights_and_tls(trial, kind):
     log.agree([server, reader])
 
 
+@case("kafka")
+def leader_moves(trial, kind):
+    """Another broker leads: it is found, by who asks for the end, who reads and who writes."""
+    store, log = trial.store(kind), trial.new_log(kind)
+    seat, other = log.seats(2)
+    for broker in (1, 2, 3, 1):
+        store.lead(log.name, broker)
+        for ask in (seat.check, seat.append, other.check):
+            until = time.monotonic() + 60
+            while ask() not in ("kept", "behind"):
+                expect(time.monotonic() < until, "under another leader:", seat.said(), other.said())
+    log.agree([seat, other])
+
+
 # A second server of PostgreSQL
 
 @own
