@@ -21,7 +21,8 @@ what to do:
   rebase   puts a shorter log in place of all lines below its next offset, while processes go on. Either
              ADAPTER rebase --registry http://127.0.0.1:8081 -- registrylog base --below {}
            has the registry make a place where that may be done (a registration and its deletion, under a subject of its own), gives the
-           lines below that offset to the command, of which {} stands for the offset, and puts in what it writes; or
+           lines below that offset to the command, of which {} stands for the offset, and puts in what it writes. If it doesn't come
+           to its end, run it again: it finishes what was begun. Or
              ADAPTER rebase < LOG
            puts in a log that was made by hand.
   trim     drops what the base stands for: a day after a rebase, say. Processes that are behind it then have to begin anew.
@@ -84,15 +85,26 @@ def opened(option, path):
 
 
 def patiently(do, options, faults=Unreachable):
-    """Does what may be done twice, for as long as patience lasts."""
-    until = time.monotonic() + options.patience
+    """Does what may be done twice, for as long as patience lasts from the first fault on."""
+    until = None
     while True:
         try:
             return do()
         except faults:
+            until = until or time.monotonic() + options.patience
             if time.monotonic() > until:
                 raise
             time.sleep(0.5)
+
+
+class Patient:
+    """What is read of a store, patiently."""
+
+    def __init__(self, store, options):
+        self.store, self.options = store, options
+
+    def read(self, at, token):
+        return patiently(lambda: self.store.read(at, token), self.options)
 
 
 def init(store, options, command):
@@ -110,7 +122,7 @@ def dump(store, options, command):
     base = patiently(store.begin, options)
     for piece in base.pieces:
         sys.stdout.buffer.write(piece)
-    for batch in follow(store, base):
+    for batch in follow(Patient(store, options), base):
         sys.stdout.buffer.write(batch.lines)
     sys.stdout.buffer.flush()
     return 0
@@ -127,9 +139,9 @@ def rebase(store, options, command):
 def compacted(store, options, command):
     """What the command writes of the lines below the place that the registry made."""
     base = patiently(store.begin, options)
-    subject = make_place(options.registry)
+    subject = make_place(options.registry, options.patience)
     lines, end = list(base.pieces), None
-    for batch in follow(store, base):
+    for batch in follow(Patient(store, options), base):
         lines.append(batch.lines)
         if deletes_for_good(batch, subject):
             end = batch.next

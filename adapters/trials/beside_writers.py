@@ -41,7 +41,9 @@ class Joined:
         self.port, self.errors = free_ports(1)[0], os.path.join(trial.folder, "joined")
         self.words = [os.path.join(trial.adapters, log.words[0]), *log.words[1:], "--patience", "3", "serve", "--",
                       sys.executable, os.path.join(HERE, "stand_in.py"), "--port", str(self.port)]
-        self.is_over, self.starts, self.statuses = False, 0, []
+        self.is_over, self.starts, self.statuses, self.adapter = False, 0, [], None
+        with open(self.errors, "wb"):
+            pass
         self.thread = threading.Thread(target=self.run, daemon=True)
         self.thread.start()
         trial.later(self.end)
@@ -60,13 +62,17 @@ class Joined:
 
     def process(self):
         """The registry's own process, if it runs."""
+        if self.adapter is None:
+            return []
         found = subprocess.run(["ps", "-o", "pid=", "--ppid", str(self.adapter.pid)], stdout=subprocess.PIPE, check=False).stdout.split()
         return [int(one) for one in found]
 
     def end(self):
         self.is_over = True
-        self.adapter.kill()
-        self.thread.join()
+        while self.thread.is_alive():
+            if self.adapter is not None:
+                self.adapter.kill()
+            self.thread.join(0.3)
 
     def ask(self, method, path, body=None):
         """Status, body and place; None where nobody answers."""
@@ -126,7 +132,7 @@ def strike_at_random(joined, seed, ended):
     chance = random.Random(seed)
     while not ended.wait(chance.uniform(0.3, 1)):
         victim = chance.choice(joined)
-        for process in chance.choice(([victim.adapter.pid], victim.process())):
+        for process in chance.choice(([victim.adapter.pid] if victim.adapter else [], victim.process())):
             try:
                 if chance.random() < 0.5:
                     os.kill(process, signal.SIGKILL)
