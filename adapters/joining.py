@@ -48,7 +48,8 @@ class Store:
         raise NotImplementedError
 
     def watch(self, wake):
-        """Has `wake` called, from a thread of its own, soon after somebody appended. Nothing rests on that."""
+        """Has `wake` called, from a thread of its own, soon after somebody appended, with the token where it is known. Nothing rests on
+        that."""
         raise NotImplementedError
 
     def init(self, log, rules):
@@ -207,9 +208,9 @@ class Adapter:
             self.has_news.clear()
             self.check()
 
-    def wake(self):
-        """Somebody may have appended: a hint, from any thread."""
-        if not self.has_news.is_set():
+    def wake(self, token=""):
+        """Somebody may have appended: a hint, from any thread. What this run appends is no news, and a look would hold up its next request."""
+        if not token.startswith(self.run) and not self.has_news.is_set():
             self.has_news.set()
             self.events.put("news")
 

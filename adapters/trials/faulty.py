@@ -1,9 +1,9 @@
 """Runs an adapter whose requests, to the store and to the registry, meet faults.
 
     faulty.py killed NUMBER WORDS..         it is killed once so many requests were answered
-    faulty.py undone 0 WORDS..              every second request isn't sent, and has no answer
-    faulty.py unanswered 0 WORDS..          every second request is done, and has no answer
-    faulty.py refused 0 WORDS..             the registry answers every second request by 503"""
+    faulty.py undone 0 WORDS..              every third request isn't sent, and has no answer
+    faulty.py unanswered 0 WORDS..          every third request is done, and has no answer
+    faulty.py refused 0 WORDS..             the registry answers every third request by 503"""
 import os
 import signal
 import sys
@@ -17,7 +17,7 @@ def with_faults(mode, number, do, no_answer, refusal=None):
     """The same call, with the faults of a mode."""
     def call(*words, **more):
         COUNT[0] += 1
-        is_struck = COUNT[0] % 2 == 0
+        is_struck = COUNT[0] % 3 == 0
         if is_struck and mode == "refused" and refusal:
             return refusal
         answer = None if is_struck and mode == "undone" else do(*words, **more)

@@ -46,7 +46,7 @@ class Rebases:
 
 @case("etcd", "postgres")
 def faulty_rebases(trial, kind):
-    """A rebase is killed behind each of its requests, and a second one finishes it; and one goes on where every second request has no answer,
+    """A rebase is killed behind each of its requests, and a second one finishes it; and one goes on where every third request has no answer,
     whether it was done or not, or the registry refuses it for a moment."""
     rebases = Rebases(trial, kind)
     status, said = rebases.run("killed", 10000)
