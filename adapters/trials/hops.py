@@ -52,11 +52,12 @@ def serve(note, words):
         return call
 
     def gives(process, data):
+        met = times.pop() if data == joining.KEPT and times else None      # before the next request comes
+        now = time.monotonic()
         give(process, data)
-        if data == joining.KEPT and times:
-            met = times.pop()
+        if met:
             with open(note, "a", encoding="utf-8") as file:
-                file.write(json.dumps([*met[:2], met[-1], time.monotonic()]) + "\n")
+                file.write(json.dumps([*met[:2], met[-1], now]) + "\n")
     joining.queue.SimpleQueue, joining.Process.give = Queue, gives
     store = next(getattr(program, name) for name in CLASSES.values() if hasattr(program, name))
     store.append = noted(store.append)
@@ -132,9 +133,9 @@ def measure(trial, options):
         hops = [[first, *json.loads(one), last] for (first, last), one in zip(asked, file)]
     if len(hops) != len(asked):
         sys.exit("%d of %d were noted" % (len(hops), len(asked)))
-    print("%s, %d registrations, a median of %.2f ms; of a plain client %.2f ms: %.2f of its rate" % (
-        options.store, len(hops), 1000 * statistics.median(one[-1] - one[0] for one in hops), 1000 * statistics.median(bare),
-        sum(bare) / sum(one[-1] - one[0] for one in hops)))
+    whole, alone = (1000 * statistics.median(times) for times in ([one[-1] - one[0] for one in hops], bare))
+    print("%s, %d registrations, a median of %.2f ms; of a plain client %.2f ms, %.2f of it" % (
+        options.store, len(hops), whole, alone, alone / whole))
     for number, name in enumerate(HOPS):
         print("%6.2f ms  %s" % (1000 * statistics.median(one[number + 1] - one[number] for one in hops), name))
 

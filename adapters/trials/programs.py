@@ -21,4 +21,4 @@ CLASSES = {"etcd": "Etcd", "postgres": "Postgres", "kafka": "Kafka"}
 def store_of(kind, words):
     """The store that an adapter's command line names: its program is the first of the words."""
     program = load(words[0])
-    return getattr(program, CLASSES[kind])(program.make_parser().parse_args([*words[1:], "dump"]))
+    return getattr(program, CLASSES[kind])(program.make_parser().parse_args([*words[1:], "--timeout", "30", "dump"]))
