@@ -18,7 +18,7 @@ MUTANTS = {
     "reads of one member that may lag": (
         "join-etcd", '"limit": str(limit), **', '"limit": str(limit), "serializable": True, **', ["etcd:lagging_member"]),
     "checks that don't look": (
-        "joining.py", "            return BEHIND if self.catch_up() else KEPT\n", "            return KEPT\n",
+        "joining.py", "            return BEHIND if self.catch_up() else DECLINED if self.is_over else KEPT\n", "            return KEPT\n",
         ["etcd:checks", "kafka:checks"]),
     "an append that looks at its offset alone": (
         "join-etcd", 'self.is_value("tail", "%d %s" % (batch.first, batch.before)), ', "",

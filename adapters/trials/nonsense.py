@@ -99,7 +99,8 @@ def command_lines(trial, kind):
     etcd, kafka = ["--prefix", "/x", "--endpoints"], ["--brokers", "127.0.0.1:1", "--topic", "x", "--settings"]
     for words, name in {
             "etcd": [([*etcd, "127.0.0.1:2379"], "127.0.0.1:2379 isn't"), ([*etcd, "http://a:b"], "http://a:b isn't"),
-                     ([*etcd, "https://a", "--cert", "/nowhere.crt"], "--cert /nowhere.crt"), ([*etcd, "https://a", "--cacert", settings], "--cacert"),
+                     ([*etcd, "https://a", "--cert", "/nowhere.crt"], "--cert /nowhere.crt"),
+                     ([*etcd, "https://a", "--cacert", settings], "--cacert"),
                      ([*etcd, "http://a", "--user", "x"], "--password-file FILE"),
                      ([*etcd, "http://a", "--user", "x", "--password-file", "/nowhere"], "/nowhere")],
             "postgres": [(["--dsn", "nonsense"], "--dsn"), (["--dsn", "host=127.0.0.1 password=secret"], "has a password"),
