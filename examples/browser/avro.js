@@ -22,6 +22,15 @@ export function layOut(text) {
   return JSON.stringify(JSON.parse(text, exactNumber), null, 2);
 }
 
+/** The same text, or the text as it is if it isn't JSON. */
+export function layOutIfJson(text) {
+  try {
+    return layOut(text);
+  } catch {
+    return text;
+  }
+}
+
 /** Keeps the digits of a number that JavaScript would round, where the browser tells them. */
 function exactNumber(_, value, context) {
   const rounded = typeof value === "number" && !Number.isSafeInteger(value);
@@ -47,6 +56,7 @@ function readNamed(json, outer, names) {
   const namespace = name.slice(0, Math.max(name.lastIndexOf("."), 0));
   const aliases = (json.aliases ?? []).map((alias) => fullName(alias, namespace));
   const type = { kind: json.type, name, aliases, symbols: json.symbols, size: json.size, said: sayings(json) };
+  type.symbolParts = json.symbols?.map((symbol) => ({ name: symbol }));
   names.set(name, type); // before its fields, which may use it
   type.fields = json.fields?.map((field) => ({
     name: field.name,
@@ -92,7 +102,7 @@ export function parts(type) {
   switch (type.kind) {
     case "use": return type.target ? parts(type.target) : [];
     case "record": return type.fields;
-    case "enum": return type.symbols.map((name) => ({ name }));
+    case "enum": return type.symbolParts;
     case "array": return [{ name: "items", type: type.items }];
     case "map": return [{ name: "values", type: type.values }];
     case "union": return type.branches.map((branch, number) => ({ name: `branch ${number}`, type: branch }));
@@ -106,20 +116,23 @@ function meant(type) {
 
 // ---- what changed
 
-/** What changed from one schema to a later one: rows with `sign` (+, -, ~), `where` and `what`, and for ~ `from` and `to`. */
+/**
+ * What changed from one schema to a later one: rows with `sign` (+, -, ~), `where` and `what`, and for ~ `from` and `to`. `old` and
+ * `young` are the fields, symbols or types of both that a row is about.
+ */
 export function differences(before, after) {
   const rows = [];
   const seen = new Map(); // which types were compared with which, so that a type inside itself ends
   compareTypes("", before, after);
   return rows;
 
-  function change(where, what, from, to) {
-    if (from !== to) rows.push({ sign: "~", where, what, from, to });
+  function change(where, what, from, to, old, young) {
+    if (from !== to) rows.push({ sign: "~", where, what, from, to, old, young });
   }
 
   function compareTypes(where, before, after) {
     const [old, young] = [branches(before), branches(after)];
-    if (String(old.map(identity)) !== String(young.map(identity))) change(where, "type", label(before), label(after));
+    if (String(old.map(identity)) !== String(young.map(identity))) change(where, "type", label(before), label(after), before, after);
     for (const [one, other] of pairsOf(old, young)) compareInside(where, one, other);
   }
 
@@ -127,14 +140,15 @@ export function differences(before, after) {
     if (seen.get(after)?.has(before)) return;
     seen.set(after, (seen.get(after) ?? new Set()).add(before));
     compareSaid(where, before, after);
-    if (after.kind === "record") compareFields(where, before.fields, after.fields);
-    if (after.kind === "enum") compareSymbols(where, before.symbols, after.symbols);
-    if (after.kind === "fixed") change(where, "size", before.size, after.size);
+    if (after.kind === "record") compareFields(where, before, after);
+    if (after.kind === "enum") compareSymbols(where, before, after);
+    if (after.kind === "fixed") change(where, "size", before.size, after.size, before, after);
     if (after.kind === "array") compareTypes(`${where}[]`, before.items, after.items);
     if (after.kind === "map") compareTypes(`${where}{}`, before.values, after.values);
   }
 
-  function compareFields(where, before, after) {
+  function compareFields(where, one, other) {
+    const [before, after] = [one.fields, other.fields];
     const place = (field) => (where ? `${where}.${field.name}` : field.name);
     const old = new Map(before.map((field) => [field.name, field]));
     const taken = new Map(after.map((field) => [field, old.get(field.name)]));
@@ -145,34 +159,35 @@ export function differences(before, after) {
     }
     for (const [field, was] of taken) {
       if (was) compareField(place(field), was, field);
-      else rows.push({ sign: "+", where: place(field), what: "field", to: inWords(field) });
+      else rows.push({ sign: "+", where: place(field), what: "field", to: inWords(field), young: field });
     }
-    for (const field of old.values()) rows.push({ sign: "-", where: place(field), what: "field", from: inWords(field) });
-    compareOrder(where, before.filter((field) => !old.has(field.name)), [...taken.values()].filter(Boolean));
+    for (const field of old.values()) rows.push({ sign: "-", where: place(field), what: "field", from: inWords(field), old: field });
+    compareOrder(where, before.filter((field) => !old.has(field.name)), [...taken.values()].filter(Boolean), one, other);
   }
 
   function compareField(where, before, after) {
-    change(where, "name", before.name, after.name);
+    change(where, "name", before.name, after.name, before, after);
     compareSaid(where, before, after);
     compareTypes(where, before.type, after.type);
   }
 
-  function compareOrder(where, before, after) {
-    if (before.some((field, place) => field !== after[place])) change(where, "order of fields", namesOf(before), namesOf(after));
+  function compareOrder(where, before, after, old, young) {
+    if (before.every((field, place) => field === after[place])) return;
+    change(where, "order of fields", namesOf(before), namesOf(after), old, young);
   }
 
   function compareSymbols(where, before, after) {
-    const [old, young] = [new Set(before), new Set(after)];
-    for (const to of after) if (!old.has(to)) rows.push({ sign: "+", where, what: "symbol", to });
-    for (const from of before) if (!young.has(from)) rows.push({ sign: "-", where, what: "symbol", from });
+    const [old, young] = [new Set(before.symbols), new Set(after.symbols)];
+    for (const it of after.symbolParts) if (!old.has(it.name)) rows.push({ sign: "+", where, what: "symbol", to: it.name, young: it });
+    for (const it of before.symbolParts) if (!young.has(it.name)) rows.push({ sign: "-", where, what: "symbol", from: it.name, old: it });
   }
 
   function compareSaid(where, before, after) {
     const [old, young] = [new Map(before.said), new Map(after.said)];
     for (const member of new Set([...old.keys(), ...young.keys()])) {
-      change(where, member, written(old, member), written(young, member));
+      change(where, member, written(old, member), written(young, member), before, after);
     }
-    change(where, "aliases", namesOrNone(before.aliases), namesOrNone(after.aliases));
+    change(where, "aliases", namesOrNone(before.aliases), namesOrNone(after.aliases), before, after);
   }
 }
 
@@ -215,6 +230,25 @@ function namesOf(fields) {
 
 function namesOrNone(names) {
   return names?.join(", ") || "none";
+}
+
+// ---- finding fields
+
+/** The fields whose names have a word in them, whatever its case, each with its `where`, in the order of the schema. */
+export function findFields(type, word) {
+  const found = [];
+  const look = (where, type) => {
+    if (type.kind === "array") look(`${where}[]`, type.items);
+    if (type.kind === "map") look(`${where}{}`, type.values);
+    for (const branch of type.branches ?? []) look(where, branch);
+    for (const field of type.fields ?? []) {
+      const place = where ? `${where}.${field.name}` : field.name;
+      if (field.name.toLowerCase().includes(word.toLowerCase())) found.push({ where: place, field });
+      look(place, field.type);
+    }
+  };
+  look("", type);
+  return found;
 }
 
 // ---- a clash

@@ -1,0 +1,42 @@
+// The schema of an id, and the versions that have it.
+import { addressOf, linkOf } from "./address.js";
+import { by, copyButton, element, text } from "./elements.js";
+import { getById, Refusal } from "./registry.js";
+import { fileOf, makeSchemaView } from "./schema.js";
+
+const showSchema = makeSchemaView(by("identity-schema"));
+let id;
+
+export async function showIdentity(choice, signal) {
+  id = choice.id;
+  by("identity-title").textContent = `Schema id ${id}`;
+  by("identity-title").focus();
+  by("identity-number").value = id;
+  by("identity-body").hidden = true;
+  by("identity-missing").hidden = true;
+  const found = await getById(id, signal).catch(missing);
+  if (!found) return;
+  by("identity-versions").replaceChildren(...found.versions.map(versionRow));
+  showSchema({ text: found.schema, name: `schema id ${id}`, file: fileOf("schema", id) });
+  by("identity-body").hidden = false;
+}
+
+function missing(error) {
+  if (!(error instanceof Refusal) || error.status !== 404) throw error;
+  by("identity-missing").hidden = false;
+  by("identity-missing").textContent = `No schema has the id ${id}. The registry says: ${error.code} ${error.message}`;
+}
+
+function versionRow({ subject, version, deleted }) {
+  const link = element("a", { href: addressOf({ subject, version }), class: deleted && "deleted" }, text(subject), `, version ${version}`);
+  if (deleted) link.append(element("small", {}, " deleted"));
+  return element("li", {}, link);
+}
+
+by("identity-tools").append(copyButton("Copy link", () => linkOf({ id })));
+by("find-identity").addEventListener("submit", (event) => {
+  event.preventDefault();
+  const address = addressOf({ id: by("identity-number").value.trim() });
+  if (location.hash === address) by("identity-title").focus();
+  location.hash = address;
+});
