@@ -58,7 +58,7 @@ export async function registerFrom(form) {
     askQuestion({
       title: ["Register this schema in ", name(subject), "?"],
       words: [
-        words(before.length === 0 ? "The check found nothing against it. It makes a new subject, and is its version 1." : `It is compatible, and becomes version ${next}.`),
+        words(before.length === 0 ? "It makes a new subject, and is its version 1." : `It is compatible, and becomes version ${next}.`),
         words("If the subject has this schema already, nothing is written, and you are told its version."),
       ],
       yes: "Register",
@@ -96,7 +96,10 @@ function restore() {
   askQuestion({
     title: [`Register version ${version} of `, name(subject), " again?"],
     words: [
-      words(`A deleted version doesn't come back as it was. Its text is registered again: it becomes version ${nextVersion()}, with its old schema id ${id}, and version ${version} stays deleted.`),
+      words(
+        "A deleted version doesn't come back as it was. Its text is registered again: ",
+        `it becomes version ${nextVersion()}, with its old schema id ${id}, and version ${version} stays deleted.`,
+      ),
       words(`The level ${level} holds for it too. If the text isn't compatible, the registry refuses (409).`),
     ],
     yes: "Register again",
@@ -113,7 +116,10 @@ function deleteVersion() {
     title: [`Delete version ${version} of `, name(subject), "?"],
     words: [
       words("It is no longer listed, and new schemas aren't compared with it."),
-      words(`Data that was written with its schema id ${id} can still be read: the id keeps its schema. Its text can be registered again, as a new version.`),
+      words(
+        `Data that was written with its schema id ${id} can still be read: the id keeps its schema. `,
+        "Its text can be registered again, as a new version.",
+      ),
     ],
     yes: "Delete",
     danger: true,
@@ -132,7 +138,10 @@ function deleteVersionForGood() {
     title: [`Delete version ${version} of `, name(subject), " for good?"],
     words: [
       words(element("b", {}, "This can't be undone.")),
-      words(`Unless another version has the schema id ${id} too, the registry no longer knows its schema: data that was written with it can't be read.`),
+      words(
+        `Unless another version has the schema id ${id} too, the registry no longer knows its schema: `,
+        "data that was written with it can't be read.",
+      ),
     ],
     yes: "Delete for good",
     danger: true,
@@ -155,7 +164,8 @@ function deleteSubject() {
   askQuestion({
     title: ["Delete the subject ", name(subject), "?"],
     words: [
-      words(live === 1 ? "Its one version is deleted." : `All its ${live} versions are deleted.`, " They are no longer listed, and new schemas aren't compared with them."),
+      words(live === 1 ? "Its one version is deleted." : `All its ${live} versions are deleted.`),
+      words("They are no longer listed, and new schemas aren't compared with them."),
       words("Data can still be read: each id keeps its schema. Each version's text can be registered again, as a new version."),
     ],
     yes: "Delete",
@@ -175,7 +185,8 @@ function deleteSubjectForGood() {
     title: ["Delete the subject ", name(subject), " for good?"],
     words: [
       words(element("b", {}, "This can't be undone.")),
-      words(`All its versions (${shown.versions.length}) go. Ids that no other subject has are then unknown: data that was written with them can't be read.`),
+      words(`All its versions (${shown.versions.length}) go.`),
+      words("Ids that no other subject has are then unknown: data that was written with them can't be read."),
     ],
     yes: "Delete for good",
     danger: true,
@@ -192,7 +203,11 @@ function deleteSubjectForGood() {
 // ---- levels and modes
 
 const KINDS = {
-  level: { words: "compatibility level", meanings: LEVELS, since: "It holds from the next registration on. What is registered stays as it is." },
+  level: {
+    words: "compatibility level",
+    meanings: LEVELS,
+    since: "It holds from the next registration on. What is registered stays as it is.",
+  },
   mode: { words: "mode", meanings: MODES, since: "It holds at once, for everybody." },
 };
 
@@ -200,8 +215,10 @@ const KINDS = {
 function changeRule(kind, subject) {
   const { words: what, meanings, since } = KINDS[kind];
   const now = subject === undefined ? registry.defaults[kind] : shown[kind];
-  const options = Object.entries(meanings).map(([value, meaning]) => [value, [element("b", {}, value), element("small", {}, ` ${meaning}`)]]);
-  const clear = ["", [element("b", {}, "As for all subjects"), element("small", {}, ` Its own ${kind} is cleared: it follows the one for all, ${registry.defaults[kind]}.`)]];
+  const option = (value, title, meaning) => [value, [element("b", {}, title), element("small", {}, ` ${meaning}`)]];
+  const options = Object.entries(meanings).map(([value, meaning]) => option(value, value, meaning));
+  const cleared = `Its own ${kind} is cleared: it follows the one for all, ${registry.defaults[kind]}.`;
+  const clear = option("", "As for all subjects", cleared);
   let chosen = now;
   const choices = choiceOf(`New ${what}`, "rule", subject === undefined ? options : [...options, clear], now, (value) => (chosen = value));
   choices.classList.add("long");
@@ -230,7 +247,8 @@ const asking = (label, action, danger) => button(label, action, { "data-asks": t
 export function subjectTools() {
   const { subject } = shown;
   const end = liveVersions().length > 0 ? ["Delete subject…", deleteSubject] : ["Delete subject for good…", deleteSubjectForGood];
-  return [asking("Change level…", () => changeRule("level", subject)), asking("Change mode…", () => changeRule("mode", subject)), asking(...end, true)];
+  const rule = (kind) => asking(`Change ${kind}…`, () => changeRule(kind, subject));
+  return [rule("level"), rule("mode"), asking(...end, true)];
 }
 
 export function versionTools() {

@@ -5,6 +5,7 @@ const PRIMITIVES = new Set(["null", "boolean", "int", "long", "float", "double",
 const NAME = /^[A-Za-z_][A-Za-z0-9_]*$/;
 const MOST_BYTES = 1_048_576;
 const DEEPEST = 127;
+const LONE = /(^|[^\\])(\\\\)*\\ud[89a-f]/; // how JSON is written with a surrogate alone
 
 class Fault extends Error {}
 
@@ -16,8 +17,10 @@ export function faultOf(text) {
     if (new TextEncoder().encode(text).length > MOST_BYTES) throw new Fault("The text is longer than 1,048,576 bytes.");
     const json = readJson(text);
     checkNumbers(text);
+    checkDepth(json, 1);
+    if (LONE.test(JSON.stringify(json))) throw new Fault("The text has half of a character: a surrogate without its partner.");
     const defaults = []; // checked once all types are known
-    checkType(json, { path: "", namespace: "", names: new Map(), depth: 1, defaults });
+    checkType(json, { path: "", namespace: "", names: new Map(), defaults });
     for (const check of defaults) check();
     return undefined;
   } catch (error) {
@@ -39,9 +42,16 @@ function readJson(text) {
 function checkNumbers(text) {
   for (const [token] of text.matchAll(/"(?:[^"\\]|\\.)*"|-?\d[\d.eE+-]*/gs)) {
     if (token.startsWith('"')) continue;
-    if (!/^-?\d+$/.test(token) || token === "-0") throw new Fault(`The number ${token} has a fraction, an exponent or the form -0, which the registry doesn't take.`);
+    const isWhole = /^-?\d+$/.test(token) && token !== "-0";
+    if (!isWhole) throw new Fault(`The number ${token} has a fraction, an exponent or the form -0, which the registry doesn't take.`);
     if (BigInt(token) < -(2n ** 63n) || BigInt(token) >= 2n ** 64n) throw new Fault(`The number ${token} is out of range.`);
   }
+}
+
+function checkDepth(json, depth) {
+  if (json === null || typeof json !== "object") return;
+  if (depth > DEEPEST) throw new Fault(`Arrays and objects are nested more than ${DEEPEST} deep.`);
+  for (const part of Object.values(json)) checkDepth(part, depth + 1);
 }
 
 /** Throws a fault at a place of the schema. */
@@ -49,17 +59,17 @@ function refuse({ path }, words) {
   throw new Fault(path === "" ? `${words[0].toUpperCase()}${words.slice(1)}` : `At ${path}: ${words}`);
 }
 
-const within = (at, path) => ({ ...at, path: at.path === "" ? path : `${at.path}${path.startsWith("[") ? "" : " > "}${path}`, depth: at.depth + 1 });
+const within = (at, path) => ({ ...at, path: at.path === "" ? path : `${at.path}${path.startsWith("[") ? "" : " > "}${path}` });
 
 /** Checks a type, and gives what a default is checked against. */
 function checkType(json, at) {
-  if (at.depth > 2 * DEEPEST) refuse(at, "the types are nested too deep.");
   if (typeof json === "string") return checkUse(json, at);
   if (Array.isArray(json)) return checkUnion(json, at);
   if (json === null || typeof json !== "object") refuse(at, `a type is a name, a union or an object, and not ${show(json)}.`);
   if (json.type === undefined) refuse(at, 'the member "type" is missing.');
   if (typeof json.type !== "string") return checkType(json.type, at);
-  const check = { record: checkRecord, enum: checkEnum, fixed: checkFixed, array: checkArray, map: checkMap }[json.type];
+  const checks = { record: checkRecord, enum: checkEnum, fixed: checkFixed, array: checkArray, map: checkMap };
+  const check = Object.hasOwn(checks, json.type) ? checks[json.type] : undefined;
   if (json.type === "error") refuse(at, 'the type "error" isn\'t one of a schema.');
   return check ? check(json, at) : checkUse(json.type, at);
 }
@@ -109,8 +119,10 @@ function define(json, at, type) {
   return { ...at, namespace: name.slice(0, Math.max(name.lastIndexOf("."), 0)) };
 }
 
-function checkAliases({ aliases = [] }, at) {
-  const right = Array.isArray(aliases) && aliases.every((alias) => typeof alias === "string" && alias.split(".").every((part) => NAME.test(part)));
+/** A type's aliases may be full names, a field's may not. */
+function checkAliases({ aliases = [] }, at, isField = false) {
+  const isName = (alias) => (isField ? [alias] : alias.split(".")).every((part) => NAME.test(part));
+  const right = Array.isArray(aliases) && aliases.every((alias) => typeof alias === "string" && isName(alias));
   if (!right) refuse(at, "aliases are a list of names.");
 }
 
@@ -130,7 +142,7 @@ function checkField(field, at, before) {
   if (!NAME.test(field.name)) refuse(here, `the name ${show(field.name)} isn't one: letters, digits and _, and no digit first.`);
   if (before.some((it) => it.name === field.name)) refuse(here, "another field has the same name.");
   if (field.type === undefined) refuse(here, 'the field has no "type".');
-  checkAliases(field, here);
+  checkAliases(field, here, true);
   const type = checkType(field.type, here);
   if ("default" in field) at.defaults.push(() => checkDefault(field, type, here));
   return { name: field.name, type, preset: "default" in field };
@@ -145,7 +157,8 @@ function checkEnum(json, at) {
   if (wrong !== undefined) refuse(at, `the symbol ${show(wrong)} isn't a name: letters, digits and _, and no digit first.`);
   const twice = symbols.find((symbol, place) => symbols.indexOf(symbol) < place);
   if (twice !== undefined) refuse(at, `the symbol ${show(twice)} is there twice.`);
-  if (json.default !== undefined && !symbols.includes(json.default)) refuse(at, `the enum's default ${show(json.default)} is none of its symbols.`);
+  const isRight = json.default === undefined || symbols.includes(json.default);
+  if (!isRight) refuse(at, `the enum's default ${show(json.default)} is none of its symbols.`);
   return type;
 }
 
@@ -182,7 +195,9 @@ const VALUES = {
   array: (value, { items }) => Array.isArray(value) && value.every((it) => isValue(it, items)),
   map: (value, { values }) => isObject(value) && Object.values(value).every((it) => isValue(it, values)),
   union: (value, { branches }) => branches.length > 0 && isValue(value, branches[0]),
-  record: (value, { fields }) => isObject(value) && fields.every((it) => (it.name in value ? isValue(value[it.name], it.type) : it.preset)),
+  record: (value, { fields }) => isObject(value) && fields.every((field) => hasField(value, field)),
 };
+
+const hasField = (value, { name, type, preset }) => (Object.hasOwn(value, name) ? isValue(value[name], type) : preset);
 
 const isValue = (value, type) => VALUES[type.kind](value, type);

@@ -5,9 +5,10 @@ import { by } from "./elements.js";
 import { prepareFresh, showFresh } from "./fresh.js";
 import { showIdentity } from "./identity.js";
 import { bringIntoSight, markCurrent, refreshList } from "./list.js";
+import { Away } from "./registry.js";
 import { beginAnew, forget, readSettings, settings } from "./state.js";
 import { prepareSubject, showSubject } from "./subject.js";
-import { onReturn, tellDone, trying } from "./waiting.js";
+import { lose, onReturn, tellDone, trying } from "./waiting.js";
 
 const OFTEN = 60_000; // milliseconds after which the list is asked for again
 
@@ -55,7 +56,8 @@ async function refreshAndTell() {
 /** Once in a while, and when somebody comes back to the page, the list alone. */
 async function refreshQuietly() {
   const starting = document.body.classList.contains("starting") || document.body.classList.contains("away-now");
-  if (document.visibilityState === "visible" && !starting) await trying(refreshList);
+  if (document.visibilityState !== "visible" || starting) return;
+  await refreshList().catch((error) => error instanceof Away && lose(error));
 }
 
 async function start() {

@@ -30,7 +30,8 @@ const firstControl = () => by("question-words").querySelector("input:checked") ?
 async function answerYes(event) {
   event.preventDefault();
   const question = asked;
-  if (question.typed !== undefined && by("question-name").value !== question.typed) return tell(element("p", {}, "This isn't the subject's name."));
+  const isRight = question.typed === undefined || by("question-name").value === question.typed;
+  if (!isRight) return tell(element("p", {}, "This isn't the subject's name."));
   by("question-yes").disabled = true;
   tell(element("p", {}, "Waiting for the registry."));
   try {

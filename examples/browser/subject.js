@@ -100,7 +100,8 @@ function drawVersions(current) {
   by("versions").replaceChildren(...windowOf(all, current).map(versionRow));
   by("versions-title").textContent = all.length === 1 ? "1 version" : `${all.length} versions`;
   by("all-versions-label").hidden = all.length <= FEW;
-  by("all-versions").replaceChildren(...all.map(({ number, deleted }) => element("option", { value: number }, `${number}${deleted ? ", deleted" : ""}`)));
+  const option = ({ number, deleted }) => element("option", { value: number }, `${number}${deleted ? ", deleted" : ""}`);
+  by("all-versions").replaceChildren(...all.map(option));
   by("all-versions").value = `${current}`;
   if (keep) by("versions").querySelector("[aria-current]")?.focus();
 }

@@ -32,6 +32,7 @@ const isAway = () => next !== undefined;
 
 function showTrouble(error) {
   if (!(error instanceof Refusal)) reportError(error);
+  by("subject-waiting").hidden = true;
   const words = [element("p", {}, inWords(error))];
   if (error.status === 401) words.push(element("p", {}, button("Give the password again", () => location.reload())));
   tellTrouble(words);
