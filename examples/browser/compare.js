@@ -18,7 +18,7 @@ export async function showComparison(choice, getVersion) {
   const wanted = others.find((it) => `${it.number}` === choice.since) ?? others.find((it) => it.number < shown.version) ?? others.at(-1);
   by("since").replaceChildren(...others.map(optionOf));
   by("since-label").hidden = by("forms").hidden = others.length === 0;
-  drawForms(choice.as ?? "list");
+  drawForms(FORMS.some(([form]) => form === choice.as) ? choice.as : "list");
   older = undefined;
   if (!wanted) return tell("There is no other version.");
   by("since").value = `${wanted.number}`;

@@ -24,7 +24,7 @@ def parts():
             reading.try_strangers, reading.try_tree_keys, try_only_read]
     write = [writing.begin_writing, writing.try_new_subject, writing.try_registering, writing.try_late_clash, writing.try_levels, writing.try_modes,
              writing.try_version_deletes, writing.try_refused_restore, writing.try_deletes_for_good, writing.try_unknown, writing.try_evil_commands,
-             looks.try_looks, looks.take_picture, writing.try_by_keys, writing.try_by_mouse, try_quiet, try_elsewhere]
+             looks.try_looks, looks.take_picture, writing.try_by_keys, writing.try_by_mouse, writing.try_hostile, try_quiet, try_elsewhere]
     return read + write
 
 

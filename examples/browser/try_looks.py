@@ -68,7 +68,7 @@ def look_at(page, where, names):
     page.show("")
     page.until("the list", lambda: page.text("#subjects") != "")
     try_width(page, f"the list, {where}")
-    page.picture(f"{where}-list")
+    page.picture(f"{where}-subjects")
     subject, schema, against, *_ = CLASHES[0]
     for form in ["texts", "trees", "list"]:
         page.show(f"subject=orders&version=3&since=2&as={form}")

@@ -96,6 +96,10 @@ class Page:
         for key in keys:
             self.browser.press(key)
 
+    def paste(self, text):
+        """Puts a text where the keys are, in place of what is marked."""
+        self.run("document.execCommand('insertText', false, arguments[0])", text)
+
     def open(self, subject, version):
         """Opens a subject by its address, and waits for the version that is to be shown."""
         self.show(f"subject={quote(subject, safe='')}")

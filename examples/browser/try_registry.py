@@ -4,6 +4,16 @@ import json
 EVIL = "<img src=x onerror=\"document.title='run'\">"
 
 
+# Strangers' texts, as names of subjects and wherever a schema may have any text.
+HOSTILE = [
+    "<script>document.title='run'</script>", "<svg onload=\"document.title='run'\">", "'\"><img src=x onerror=document.title='run'>", "</bdi></a></li><h1>run</h1>",
+    "</textarea><script>document.title='run'</script>", "</pre></details><iframe src=/>", "</title><base href=//else.where/>", "<!-- run", "]]>", "javascript:document.title='run'",
+    "data:text/html,<script>1</script>", "&lt;b&gt;&amp;amp;", "%3Cb%3E%2e%2e%2f", "{{7*7}}${7*7}`", "\u202erun\u202c\u2066", "\u200bzero\ufeffwidth", "two\nlines\ttab", "__proto__", "constructor",
+    "toString", "a/../../b", "?a=b&c#d;e", "null", "\U0001f600 \u00e9\u0301", "x" * 1500, " ", "'; DROP TABLE schemas; --", "<style>*{display:none}</style>", "<a href=x autofocus onfocus=document.title='run'>",
+    "<meta http-equiv=refresh content=0>",
+]
+
+
 def record(name, *fields, **more):
     return {"type": "record", "name": name, "fields": list(fields), **more}
 

@@ -1,8 +1,9 @@
 """The parts of try.py that write: each command behind its question, and what the registry refuses."""
 import json
+from urllib.parse import quote
 
 from try_page import DOWN, ENTER, ESCAPE, SPACE, TAB, has, same
-from try_registry import EVIL, FOLLOWS, NARROWER, field, record
+from try_registry import EVIL, FOLLOWS, HOSTILE, NARROWER, field, record
 
 FIRST = record("New", field("a", "int"))
 SECOND = record("New", field("a", "int"), field("b", "int", default=0))
@@ -205,6 +206,28 @@ def try_evil_commands(page):
     same("pictures and scripts in it", 0, page.count("img, body script, iframe, object"))
 
 
+def try_hostile(page):
+    """Strangers' texts everywhere: each is shown as it is, and none does anything."""
+    for text in HOSTILE:
+        schemas = [record("X", field("a", "string", default=text, doc=doc), doc=text, **{f"-{text}": text}) for doc in (text, "another")]
+        for schema in schemas:
+            page.stand.register(text, schema)
+    page.button("Refresh")
+    page.until_text("#done", "The list is up to date.")
+    for text in HOSTILE:
+        name = page.run("return encodeURIComponent(arguments[0])", text)
+        page.show(f"subject={name}&version=2&since=1&as={name}&against={name}&check={name}")
+        page.until(f"the subject {text[:40]!r}", lambda: page.run("return document.getElementById('subject-title').textContent") == text and page.is_at(2) and page.text("#check .verdict") not in ("", "Checking."))
+        tree = page.run("return document.querySelector('#version .tree').textContent")
+        has(f"the documentation of {text[:40]!r}", text, tree)
+        same(f"the title of {text[:40]!r}", f"{text} · Production".split(), page.run("return document.title").split())
+        same(f"what {text[:40]!r} put into the page", 0, page.count("img, svg, body script, iframe, object, base, body style, body meta, [onload], [onerror], [onfocus], [autofocus], body h1:not(:has(#name))"))
+        same(f"links of {text[:40]!r} that lead elsewhere", [], page.run("return [...document.links].map((it) => it.getAttribute('href')).filter((it) => !it.startsWith('#'))"))
+    for text in HOSTILE:
+        page.stand.ask("DELETE", f"/subjects/{quote(text, safe='')}")
+        page.stand.ask("DELETE", f"/subjects/{quote(text, safe='')}?permanent=true")
+
+
 def try_by_keys(page):
     """try.md with the keyboard alone: a schema by its id, a compatible version, and a refusal."""
     page.load()
@@ -221,12 +244,13 @@ def try_by_keys(page):
     page.until("the version", lambda: page.is_at(3))
     same("where the keys are", "subject-title", page.focused())
     go_to(page, "", 40, "TEXTAREA")
-    page.press(json.dumps(NARROWER))
+    page.paste(json.dumps(NARROWER))
     go_to(page, "Check compatibility", 3)
     page.press(ENTER)
     page.until_text("#check .verdict", "Not compatible. version 3, BACKWARD, at /field:lines/items/field:amount: TYPE_MISMATCH")
     go_back(page, "TEXTAREA")
-    page.press("\ue009a", json.dumps(FOLLOWS))
+    page.press("\ue009a")
+    page.paste(json.dumps(FOLLOWS))
     go_to(page, "Register…", 4)
     page.press(SPACE)
     page.asked_question("Register this schema in orders?")
@@ -271,7 +295,7 @@ def try_by_mouse(page):
     page.until("the latest", lambda: page.is_at(4))
     page.button("Start from version 4")
     text = page.value("#check textarea")
-    page.write("#check textarea", text.replace('"amount",\n', '"amount", "default": 1,\n'))
+    page.write("#check textarea", text.replace('"fields": [', '"fields": [{"name": "size", "type": "string", "default": "none"},', 1))
     page.button("Register…", "#check")
     page.asked_question("Register this schema in orders?")
     page.yes("Registered as version 5, with schema id ")
