@@ -1,8 +1,8 @@
-// Avro schemas as trees: how a text is read, what changed between two, and where a clash's trail leads in both.
+// Avro schemas as trees: how a text is read, which fields have a name, and where a clash's trail leads in two of them.
 // Nothing here touches the page. A schema is taken as the registry accepted it, so its rules aren't checked again.
 
 const PRIMITIVES = new Set(["null", "boolean", "int", "long", "float", "double", "bytes", "string"]);
-const NAMED = new Set(["record", "enum", "fixed"]);
+export const NAMED = new Set(["record", "enum", "fixed"]);
 // What a type or a field says by itself; all else it says is shown and compared as it stands.
 const STRUCTURE = new Set(["type", "name", "namespace", "fields", "items", "values", "symbols", "size", "aliases"]);
 
@@ -110,126 +110,9 @@ export function parts(type) {
   }
 }
 
-function meant(type) {
+/** What a use of a type names, else the type itself. */
+export function meant(type) {
   return type.kind === "use" ? type.target ?? type : type;
-}
-
-// ---- what changed
-
-/**
- * What changed from one schema to a later one: rows with `sign` (+, -, ~), `where` and `what`, and for ~ `from` and `to`. `old` and
- * `young` are the fields, symbols or types of both that a row is about.
- */
-export function differences(before, after) {
-  const rows = [];
-  const seen = new Map(); // which types were compared with which, so that a type inside itself ends
-  compareTypes("", before, after);
-  return rows;
-
-  function change(where, what, from, to, old, young) {
-    if (from !== to) rows.push({ sign: "~", where, what, from, to, old, young });
-  }
-
-  function compareTypes(where, before, after) {
-    const [old, young] = [branches(before), branches(after)];
-    if (String(old.map(identity)) !== String(young.map(identity))) change(where, "type", label(before), label(after), before, after);
-    for (const [one, other] of pairsOf(old, young)) compareInside(where, one, other);
-  }
-
-  function compareInside(where, before, after) {
-    if (seen.get(after)?.has(before)) return;
-    seen.set(after, (seen.get(after) ?? new Set()).add(before));
-    compareSaid(where, before, after);
-    if (after.kind === "record") compareFields(where, before, after);
-    if (after.kind === "enum") compareSymbols(where, before, after);
-    if (after.kind === "fixed") change(where, "size", before.size, after.size, before, after);
-    if (after.kind === "array") compareTypes(`${where}[]`, before.items, after.items);
-    if (after.kind === "map") compareTypes(`${where}{}`, before.values, after.values);
-  }
-
-  function compareFields(where, one, other) {
-    const [before, after] = [one.fields, other.fields];
-    const place = (field) => (where ? `${where}.${field.name}` : field.name);
-    const old = new Map(before.map((field) => [field.name, field]));
-    const taken = new Map(after.map((field) => [field, old.get(field.name)]));
-    for (const { name } of after) old.delete(name);
-    for (const field of after) {
-      const alias = taken.get(field) ? undefined : field.aliases.find((name) => old.has(name));
-      if (alias !== undefined) taken.set(field, old.get(alias)) && old.delete(alias);
-    }
-    for (const [field, was] of taken) {
-      if (was) compareField(place(field), was, field);
-      else rows.push({ sign: "+", where: place(field), what: "field", to: inWords(field), young: field });
-    }
-    for (const field of old.values()) rows.push({ sign: "-", where: place(field), what: "field", from: inWords(field), old: field });
-    compareOrder(where, before.filter((field) => !old.has(field.name)), [...taken.values()].filter(Boolean), one, other);
-  }
-
-  function compareField(where, before, after) {
-    change(where, "name", before.name, after.name, before, after);
-    compareSaid(where, before, after);
-    compareTypes(where, before.type, after.type);
-  }
-
-  function compareOrder(where, before, after, old, young) {
-    if (before.every((field, place) => field === after[place])) return;
-    change(where, "order of fields", namesOf(before), namesOf(after), old, young);
-  }
-
-  function compareSymbols(where, before, after) {
-    const [old, young] = [new Set(before.symbols), new Set(after.symbols)];
-    for (const it of after.symbolParts) if (!old.has(it.name)) rows.push({ sign: "+", where, what: "symbol", to: it.name, young: it });
-    for (const it of before.symbolParts) if (!young.has(it.name)) rows.push({ sign: "-", where, what: "symbol", from: it.name, old: it });
-  }
-
-  function compareSaid(where, before, after) {
-    const [old, young] = [new Map(before.said), new Map(after.said)];
-    for (const member of new Set([...old.keys(), ...young.keys()])) {
-      change(where, member, written(old, member), written(young, member), before, after);
-    }
-    change(where, "aliases", namesOrNone(before.aliases), namesOrNone(after.aliases), before, after);
-  }
-}
-
-function branches(type) {
-  return (type.kind === "union" ? type.branches : [type]).map(meant);
-}
-
-/** What tells a union's branches apart. */
-function identity(type) {
-  return NAMED.has(type.kind) ? `${type.kind} ${type.name}` : type.kind;
-}
-
-/** Pairs types of one identity, and then those that are left of one kind: a record with another name, say. */
-function pairsOf(before, after) {
-  const pairs = [];
-  for (const key of [identity, (type) => type.kind]) {
-    const left = new Map(before.map((type) => [key(type), type]));
-    for (const type of after) {
-      const partner = left.get(key(type));
-      if (partner && left.delete(key(type))) pairs.push([partner, type]);
-    }
-    before = before.filter((type) => !pairs.some(([one]) => one === type));
-    after = after.filter((type) => !pairs.some(([, other]) => other === type));
-  }
-  return pairs;
-}
-
-function inWords(field) {
-  const preset = new Map(field.said);
-  return label(field.type) + (preset.has("default") ? `, default ${written(preset, "default")}` : "");
-}
-
-function written(said, member) {
-  return said.has(member) ? JSON.stringify(said.get(member)) : "none";
-}
-
-function namesOf(fields) {
-  return fields.map((field) => field.name).join(", ");
-}
-
-function namesOrNone(names) {
-  return names?.join(", ") || "none";
 }
 
 // ---- finding fields

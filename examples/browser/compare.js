@@ -1,6 +1,7 @@
 // What changed between two versions: as a list, as two trees, as two texts.
 import { addressOf, linkOf, readAddress } from "./address.js";
-import { differences, layOutIfJson, readSchema } from "./avro.js";
+import { layOutIfJson, readSchema } from "./avro.js";
+import { differences } from "./changes.js";
 import { by, choiceOf, copyButton, element, text } from "./elements.js";
 import { drawLines } from "./lines.js";
 import { marksOfFound } from "./schema.js";
