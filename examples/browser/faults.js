@@ -34,7 +34,8 @@ function readJson(text) {
     return JSON.parse(text);
   } catch (error) {
     const bare = /^[A-Za-z_][\w.]*$/.test(text.trim()) ? ` A type's name is written in quotes: ${show(text.trim())}.` : "";
-    throw new Fault(`This isn't JSON. The browser says: ${error.message}.${bare}`);
+    const message = error.message.replaceAll(/\p{Surrogate}/gu, "\ufffd"); // it may cut a character in two
+    throw new Fault(`This isn't JSON. The browser says: ${message}.${bare}`);
   }
 }
 

@@ -1,8 +1,8 @@
 // The list of subjects.
-import { addressOf } from "./address.js";
+import { addressOf, readAddress } from "./address.js";
 import { button, by, element, text } from "./elements.js";
 import { getDefaults, listSubjects } from "./registry.js";
-import { registry, shown } from "./state.js";
+import { registry } from "./state.js";
 
 const PAGE = 100; // subjects on one page of the list
 const numbers = new Intl.NumberFormat("en");
@@ -65,18 +65,20 @@ function subjectRow({ name, deleted }) {
   return element("li", {}, link);
 }
 
-/** Marks what is shown in the list. */
+/** Marks in the list what is chosen. */
 export function markCurrent() {
-  const current = shown.subject === undefined ? undefined : addressOf({ subject: shown.subject });
+  const { subject } = readAddress();
+  const current = subject === undefined ? undefined : addressOf({ subject });
   for (const link of document.querySelectorAll("#subjects a")) {
     if (link.getAttribute("href") === current) link.setAttribute("aria-current", "true");
     else link.removeAttribute("aria-current");
   }
 }
 
-/** Brings the subject that is shown into sight, wherever it is in the list. */
+/** Brings the subject that is chosen into sight, wherever it is in the list. */
 export function bringIntoSight() {
-  const place = list.found.findIndex((it) => it.name === shown.subject);
+  const { subject } = readAddress();
+  const place = list.found.findIndex((it) => it.name === subject);
   if (place >= 0 && (place < list.first || place >= list.first + PAGE)) showPage(place - (place % PAGE));
   markCurrent();
   const link = document.querySelector("#subjects a[aria-current]");

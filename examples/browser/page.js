@@ -4,13 +4,15 @@ import { prepareCommands, registerFrom, subjectTools, versionTools } from "./com
 import { by } from "./elements.js";
 import { prepareFresh, showFresh } from "./fresh.js";
 import { showIdentity } from "./identity.js";
-import { bringIntoSight, markCurrent, refreshList } from "./list.js";
+import { bringIntoSight, refreshList } from "./list.js";
 import { Away } from "./registry.js";
 import { beginAnew, forget, readSettings, settings } from "./state.js";
 import { prepareSubject, showSubject } from "./subject.js";
 import { lose, onReturn, tellDone, trying } from "./waiting.js";
 
 const OFTEN = 60_000; // milliseconds after which the list is asked for again
+
+let inSight; // the subject that was brought into sight last
 
 const VIEWS = {
   nothing: { title: () => undefined, show: forget },
@@ -33,10 +35,9 @@ async function showChoice(again = false) {
   for (const other of Object.keys(VIEWS)) by(other).hidden = other !== name;
   document.body.classList.toggle("chosen", name !== "nothing");
   document.title = [VIEWS[name].title(choice), settings.name].filter(Boolean).join(" · ");
+  if (!again || choice.subject !== inSight) bringIntoSight();
+  inSight = choice.subject;
   await trying(() => VIEWS[name].show(choice, signal, again));
-  if (signal.aborted) return;
-  markCurrent();
-  if (!again) bringIntoSight();
 }
 
 /** Asks for everything again: the list, and what is shown. */

@@ -64,6 +64,10 @@ def try_list(page, subjects):
     page.until("it is marked on its own page of the list", lambda: page.texts("#subjects a[aria-current]") == ["topic-00777"])
     inside = page.run("const it = document.querySelector('#subjects a[aria-current]').getBoundingClientRect(); return it.top > 0 && it.bottom <= innerHeight")
     same("it is in sight", True, inside)
+    page.load("#subject=topic-00555")
+    page.until("a link marks it too", lambda: page.texts("#subjects a[aria-current]") == ["topic-00555"])
+    page.show("subject=topic-00777")
+    page.until("the one before", lambda: page.texts("#subjects a[aria-current]") == ["topic-00777"])
     try_refresh(page, subjects)
 
 
@@ -284,6 +288,7 @@ def try_slow(page):
     page.show("subject=fixed")
     page.until_text("#waiting", "Waiting for the registry.")
     same("the title at once", "fixed", page.text("#subject-title"))
+    same("and its mark", ["fixed"], page.texts("#subjects a[aria-current]"))
     same("nothing of the subject before", "", page.text("#subject-body"))
     page.picture("slow")
     page.until_text("#waiting", "The registry hasn't answered for ")
