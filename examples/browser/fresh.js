@@ -4,6 +4,7 @@ import { clearVerdict, makeCheckForm } from "./check.js";
 import { by } from "./elements.js";
 
 let form;
+let given; // the address that was shown last
 
 export function prepareFresh(registering) {
   form = makeCheckForm(by("fresh-check"), {
@@ -14,7 +15,11 @@ export function prepareFresh(registering) {
   });
 }
 
-export function showFresh(choice) {
+/** Shows what the address gives. If it is shown `again`, what was typed since stays. */
+export function showFresh(choice, again) {
+  const address = JSON.stringify(choice);
+  if (again && address === given) return;
+  given = address;
   by("fresh-name").value = choice.new;
   if (choice.check !== undefined) form.schema.value = choice.check;
   clearVerdict(form);

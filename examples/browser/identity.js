@@ -7,22 +7,28 @@ import { fileOf, makeSchemaView } from "./schema.js";
 const showSchema = makeSchemaView(by("identity-schema"));
 let id;
 
-export async function showIdentity(choice, signal) {
-  id = choice.id;
-  by("identity-title").textContent = `Schema id ${id}`;
-  by("identity-title").focus();
-  by("identity-number").value = id;
-  by("identity-body").hidden = true;
-  by("identity-missing").hidden = true;
+export async function showIdentity(choice, signal, again) {
+  if (!again || choice.id !== id) begin(choice.id);
   const found = await getById(id, signal).catch(missing);
   if (!found) return;
+  by("identity-missing").hidden = true;
   by("identity-versions").replaceChildren(...found.versions.map(versionRow));
   showSchema({ text: found.schema, name: `schema id ${id}`, file: fileOf("schema", id) });
   by("identity-body").hidden = false;
 }
 
+function begin(chosen) {
+  id = chosen;
+  by("identity-title").textContent = `Schema id ${id}`;
+  by("identity-title").focus();
+  by("identity-number").value = id;
+  by("identity-body").hidden = true;
+  by("identity-missing").hidden = true;
+}
+
 function missing(error) {
   if (!(error instanceof Refusal) || error.status !== 404) throw error;
+  by("identity-body").hidden = true;
   by("identity-missing").hidden = false;
   by("identity-missing").textContent = `No schema has the id ${id}. The registry says: ${error.code} ${error.message}`;
 }

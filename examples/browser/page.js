@@ -16,9 +16,9 @@ let inSight; // the subject that was brought into sight last
 
 const VIEWS = {
   nothing: { title: () => undefined, show: forget },
-  identity: { title: ({ id }) => `id ${id}`, show: (choice, signal) => (forget(), showIdentity(choice, signal)) },
+  identity: { title: ({ id }) => `id ${id}`, show: (...given) => (forget(), showIdentity(...given)) },
   subject: { title: ({ subject }) => subject, show: showSubject },
-  fresh: { title: () => "New subject", show: (choice) => (forget(), showFresh(choice)) },
+  fresh: { title: () => "New subject", show: (choice, signal, again) => (forget(), showFresh(choice, again)) },
 };
 
 function viewOf({ subject, id, new: fresh }) {

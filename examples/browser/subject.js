@@ -17,6 +17,7 @@ const showSchema = makeSchemaView(by("version-schema"), drawComparison);
 const drafts = new Map(); // what was typed for each subject
 const kept = new Map(); // the versions of this subject that were read
 let form;
+let drafted; // the subject for which the form's text was typed
 let tools = { subject: () => [], version: () => [] }; // the buttons of what is written
 
 /** Builds what depends on leave to write: `write` has the buttons for it, and `registering`. */
@@ -40,11 +41,12 @@ export async function showSubject(choice, signal, again) {
   if (other) beginSubject(choice.subject);
   if ((other || again) && !(await loadSubject(choice.subject, signal))) return;
   await showVersion(choice, signal);
-  if (choice.check !== undefined) await openCheck(choice);
+  if (choice.check !== undefined && (other || !again)) await openCheck(choice);
 }
 
 function beginSubject(subject) {
-  if (shown.subject !== undefined) drafts.set(shown.subject, form.schema.value);
+  if (drafted !== undefined) drafts.set(drafted, form.schema.value);
+  drafted = subject;
   forget();
   form.schema.value = drafts.get(subject) ?? "";
   clearVerdict(form);
