@@ -61,6 +61,12 @@ async function refreshQuietly() {
   await refreshList().catch((error) => error instanceof Away && lose(error));
 }
 
+function showOther() {
+  if (document.body.classList.contains("starting")) return; // the start shows it
+  tellDone();
+  showChoice();
+}
+
 async function start() {
   await readSettings();
   by("name").textContent = document.title = settings.name;
@@ -71,15 +77,12 @@ async function start() {
     prepareCommands(refresh);
   }
   onReturn(refresh);
-  await refresh();
-  addEventListener("hashchange", () => {
-    tellDone();
-    showChoice();
-  });
+  addEventListener("hashchange", showOther);
   by("refresh").addEventListener("click", refreshAndTell);
   by("skip").addEventListener("click", () => by("main").focus());
   document.addEventListener("visibilitychange", refreshQuietly);
   setInterval(refreshQuietly, OFTEN);
+  await refresh();
 }
 
 await start();

@@ -3,8 +3,9 @@
 
 It brings up `REGISTRYLOG keep`, a follower and nginx with ../nginx.conf in a folder of their own. PICTURES is a folder that is there. With
 PARTs, such as try_list, only these are tried. SUBJECTS says how many subjects there are (10,000), BROWSERS which browsers are used, both of
-them if they are installed. It was run with Chromium 156 and Firefox 153. The status is 1 if something isn't as it should be. It wants
-Debian's packages chromium, chromium-driver, python3-selenium, firefox-esr, nginx, openssl and apache2-utils."""
+them if they are installed, and PORT the first of three ports. It was run with Chromium 156 and Firefox 153. The status is 1 if something
+isn't as it should be. It wants Debian's packages chromium, chromium-driver, python3-selenium, firefox-esr, nginx, openssl and
+apache2-utils."""
 import os, sys, tempfile, time
 
 import try_looks as looks, try_reading as reading, try_writing as writing

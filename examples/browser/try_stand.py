@@ -2,7 +2,8 @@
 import base64, json, os, re, shutil, ssl, subprocess, time, urllib.error, urllib.parse, urllib.request
 
 HERE = os.path.dirname(os.path.abspath(__file__))
-FRONT, WRITER, FOLLOWER = 19543, 19581, 19582
+FRONT = int(os.environ.get("PORT", 19543))
+WRITER, FOLLOWER = FRONT + 1, FRONT + 2
 LOGIN = "someone:secret"
 
 
