@@ -1,10 +1,11 @@
 // The schema of an id, and the versions that have it.
 import { addressOf, linkOf } from "./address.js";
-import { by, copyButton, element, text } from "./elements.js";
+import { button, by, copyButton, element, text } from "./elements.js";
 import { getById, Refusal } from "./registry.js";
 import { fileOf, makeSchemaView } from "./schema.js";
 
 const showSchema = makeSchemaView(by("identity-schema"));
+const PIECE = 100; // versions that are shown at once
 let id;
 
 export async function showIdentity(choice, signal, again) {
@@ -12,7 +13,7 @@ export async function showIdentity(choice, signal, again) {
   const found = await getById(id, signal).catch(missing);
   if (!found) return;
   by("identity-missing").hidden = true;
-  by("identity-versions").replaceChildren(...found.versions.map(versionRow));
+  drawVersions(found.versions, PIECE);
   showSchema({ text: found.schema, name: `schema id ${id}`, file: fileOf("schema", id) });
   by("identity-body").hidden = false;
 }
@@ -31,6 +32,16 @@ function missing(error) {
   by("identity-body").hidden = true;
   by("identity-missing").hidden = false;
   by("identity-missing").textContent = `No schema has the id ${id}. The registry says: ${error.code} ${error.message}`;
+}
+
+/** The first versions, and a button for more: an id may be that of thousands. */
+function drawVersions(versions, end) {
+  by("identity-versions").replaceChildren(...versions.slice(0, end).map(versionRow));
+  const more = button(`${end} of ${versions.length} are shown: show more`, () => {
+    drawVersions(versions, end + PIECE);
+    by("identity-versions").children[end].querySelector("a").focus();
+  });
+  by("identity-more").replaceChildren(...(end < versions.length ? [more] : []));
 }
 
 function versionRow({ subject, version, deleted }) {

@@ -126,7 +126,9 @@ def try_identity(page):
     same("nothing of another id is shown", "", page.text("#identity-body"))
     same("the link of an id", "#id=2147483648", page.run("return location.hash"))
     page.show("id=1")
-    page.until("an id of many subjects", lambda: page.count("#identity-versions a") >= 1000, 120)
+    page.until("an id of many subjects", lambda: page.count("#identity-versions a") == 100)
+    page.click("#identity-more button")
+    same("more of them", [200, "topic-00100, version 1"], [page.count("#identity-versions a"), page.focused()])
 
 
 def try_subject(page):
