@@ -94,16 +94,19 @@ class Firefox:
         command = [FIREFOX, "--headless", "--no-remote", "--marionette", "--remote-allow-system-access", "--width", "1200", "--height", "1500", "--profile", self.profile]
         quiet = {"stdout": subprocess.DEVNULL, "stderr": subprocess.DEVNULL}
         self.process = subprocess.Popen(command, env={**os.environ, "HOME": self.profile}, **quiet)
-        self.connect()
-        self.number = 0
-        self.read()
-        self.command("WebDriver:NewSession", {"acceptInsecureCerts": True})
-        self.said = 0
+        self.number = self.said = 0
+        try:
+            self.connect()
+            self.read()
+            self.command("WebDriver:NewSession", {"acceptInsecureCerts": True})
+        except BaseException:
+            self.process.kill()
+            raise
 
     def connect(self):
         for _ in range(600):
             try:
-                self.socket = socket.create_connection(("127.0.0.1", PREFERENCES["marionette.port"]), 120)
+                self.socket = socket.create_connection(("127.0.0.1", PREFERENCES["marionette.port"]), 300)
                 return
             except OSError:
                 time.sleep(0.1)
