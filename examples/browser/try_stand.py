@@ -103,6 +103,8 @@ class Stand:
     def password(self, word):
         with open(self.path("registry.users"), "w") as file:
             subprocess.run(["htpasswd", "-nbB", LOGIN.split(":")[0], word], check=True, stdout=file)
+        with open(self.path("registry.writers"), "w") as file:
+            file.write(LOGIN.split(":")[0] + " true;\n")
 
     def settings(self, given):
         """Writes the page's settings: an object, a text that may be none, or None for no file."""
