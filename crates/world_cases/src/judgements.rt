@@ -137,7 +137,7 @@ fn anew_text(
     judge: &mut Judge,
     wanted: &str,
 ) -> Said<String> {
-    let anew = case.anew(registry)?;
+    let mut anew = case.anew(registry)?;
     if !anew.stands(registry)? {
         return Ok(String::from_str(alloc, "nothing that stands there")?);
     }
