@@ -21,10 +21,19 @@ export function makeCheckForm(place, about) {
     schema.value = string;
     markOld(form);
   };
-  form.begin = button("", () => put(layOutIfJson(form.kept)), { hidden: true });
+  form.begin = button(
+    "",
+    () => {
+      put(layOutIfJson(form.kept));
+      schema.focus();
+      schema.setSelectionRange(0, 0);
+    },
+    { hidden: true },
+  );
   if (about.registering) buttons.append(button("Register…", () => about.registering(form), { "data-asks": true }));
-  buttons.append(form.begin, button("Indent", () => put(layOutIfJson(schema.value))), copyButton("Copy link", () => about.link(form)));
-  const fields = element("form", {}, labelled("New schema, as JSON", schema), about.against && labelled("Compare with", against), buttons);
+  buttons.append(button("Indent", () => put(layOutIfJson(schema.value))), copyButton("Copy link", () => about.link(form)));
+  const above = element("div", { class: "buttons" }, form.begin);
+  const fields = element("form", {}, above, labelled("New schema, as JSON", schema), about.against && labelled("Compare with", against), buttons);
   schema.addEventListener("input", () => markOld(form));
   fields.addEventListener("submit", (event) => {
     event.preventDefault();
@@ -43,6 +52,7 @@ export async function check(form, against = form.against.value) {
     const answer = await mayFollow(name, schema, against, given);
     if (answer.is_compatible) tell(form, "yes", element("b", {}, "Compatible."), " ", form.about.yes?.(against) ?? "");
     else await tellClash(form, answer.messages?.[0] ?? "", name, schema, given);
+    form.verdict.scrollIntoView({ block: answer.is_compatible ? "nearest" : "start" });
     return answer.is_compatible;
   } catch (error) {
     if (given.aborted) return false;

@@ -19,6 +19,7 @@ let refresh; // shows everything anew
 export function prepareCommands(refreshAll) {
   refresh = refreshAll;
   const all = (kind, what) => button(`Change ${what}…`, () => changeRule(kind), { "data-asks": true });
+  by("defaults-tools").hidden = true; // until it is known what holds now
   by("defaults-tools").replaceChildren(all("level", "level"), " ", all("mode", "mode"));
   by("list-tools").replaceChildren(element("a", { href: addressOf({ new: "" }), class: "button", id: "new-subject" }, "New subject"));
 }

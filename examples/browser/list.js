@@ -16,6 +16,7 @@ export async function refreshList() {
   by("level").textContent = defaults.level;
   by("mode").textContent = defaults.mode;
   by("defaults").hidden = false;
+  by("defaults-tools").hidden = false;
   if (other || by("shown").textContent === "") search(list.first);
 }
 

@@ -42,6 +42,7 @@ async function answerYes(event) {
   } catch (error) {
     tell(...(error instanceof Away ? wordsOfUnknown(error) : await (question.refused ?? wordsOfRefusal)(error)));
     by("question-yes").disabled = false;
+    by("question-yes").focus(); // it lost the keys while it was disabled
   }
 }
 
@@ -49,7 +50,7 @@ function tell(...words) {
   by("question-answer").replaceChildren(...words);
 }
 
-const wordsOfRefusal = (error) => [element("p", {}, element("b", {}, inWords(error)))];
+const wordsOfRefusal = (error) => [element("p", { class: "verdict no" }, element("b", {}, inWords(error)))];
 
 function wordsOfUnknown(error) {
   const unknown = "It isn't known whether this was done. Cancel, and look before you try again.";

@@ -2,7 +2,7 @@
 import { addressOf, linkOf } from "./address.js";
 import { check, clearVerdict, makeCheckForm } from "./check.js";
 import { drawComparison, showComparison } from "./compare.js";
-import { by, copyButton, element, text } from "./elements.js";
+import { button, by, copyButton, element, text } from "./elements.js";
 import { LEVELS } from "./levels.js";
 import { getInForce, getVersion, listVersions, Refusal } from "./registry.js";
 import { fileOf, makeSchemaView } from "./schema.js";
@@ -161,7 +161,8 @@ function drawVersion({ version, id, schema }) {
   by("version-title").replaceChildren(`Version ${version}, schema id `, same, deleted ? ", deleted" : "");
   showSchema({ text: schema, name: `version ${version}`, file: fileOf(shown.subject, "version", version) });
   const link = copyButton("Copy link", () => linkOf({ subject: shown.subject, version: shown.version }));
-  by("version-tools").replaceChildren(link, ...tools.version());
+  const start = button("Start from this version", () => form.begin.click());
+  by("version-tools").replaceChildren(start, link, ...tools.version());
   form.kept = schema;
   form.begin.hidden = false;
   form.begin.textContent = `Start from version ${version}`;
