@@ -1,6 +1,8 @@
 -- Members in order, and where one more is put among them.
 use Rattle.std.proofs.Common.{◌≡◌, ℕ, zero, suc, List, [], ◌∷◌, ◌++◌, get_or, set, length, Bor, Ordering, Less, Equal}
-use Rattle.std.proofs.Common.{Greater, nat_cmp, is_lt, is_eq, false, bytes_eq, refl, ap, ◌∙◌, subst, ◌-◌, ◌<◌, ◌≤◌, arith}
+use Rattle.std.proofs.Common.{Greater, nat_cmp, is_lt, is_eq, true, false, bytes_eq, refl, sym, ap, ◌∙◌, subst, ◌-◌, ◌<◌, ◌≤◌, arith}
+use Rattle.std.proofs.Common.{MatchOption, Some, slice_get}
+use Rattle.std.proofs.lemmas.Option.{slice_get-get_or}
 use Rattle.std.proofs.lemmas.Cmp.{nat_list_cmp_total, tied_itself}
 use Rattle.std.proofs.lemmas.Map.Text.{is_eq-slice_cmp}
 use Rattle.std.specs.Cmp.Lexicographic.{slice_cmp}
@@ -109,6 +111,34 @@ module _ (n : Bor (List ℕ)) (v : Json) (d : Entry) where
   put_between xs i within order last next =
       put_inserts xs i within order (λ j e.
       subst (λ m. slice_cmp nat_cmp n.now (get_or xs m d).0.now ≡ Greater) (omega arith) (last (omega arith))) next
+
+  -- a name above the last goes last
+  less_at : (o : Ordering) → true ≡ is_lt o → o ≡ Less
+  less_at Less e = refl
+  less_at Equal e = absurd (cc)
+  less_at Greater e = absurd (cc)
+
+  insert_end : (xs : List Entry) (x : Entry) → insert xs (length xs) x ≡ xs ++ x ∷ []
+  insert_end [] x = refl
+  insert_end (y ∷ ys) x = ap (λ zs. y ∷ zs) (insert_end ys x)
+
+  above_last : (xs : List Entry) (j : ℕ) → suc j ≡ length xs
+      → MatchOption (slice_get xs (length xs - 1)) (true ≡ true) (λ (m : Entry). true ≡ is_lt (slice_cmp nat_cmp m.0.now n.now))
+      → slice_cmp nat_cmp n.now (get_or xs j d).0.now ≡ Greater
+  above_last xs j e last =
+      let within : j < length xs = omega (arith, e) in
+      let same : length xs - 1 ≡ j = omega (arith, e) in
+      let at : slice_get xs (length xs - 1) ≡ Some (get_or xs j d) = ap (slice_get xs) same ∙ slice_get-get_or xs j d within in
+      let less =
+      subst (λ o. MatchOption o (true ≡ true) (λ (m : Entry). true ≡ is_lt (slice_cmp nat_cmp m.0.now n.now))) at last in
+      reversed (get_or xs j d).0.now n.now (less_at _ less)
+
+  pub put_at_end : (xs : List Entry) → IsInOrder (members_view xs)
+      → MatchOption (slice_get xs (length xs - 1)) (true ≡ true) (λ (m : Entry). true ≡ is_lt (slice_cmp nat_cmp m.0.now n.now))
+      → members_view (xs ++ (n, v) ∷ []) ≡ put n.now (view v) (members_view xs)
+  put_at_end xs order last =
+      ap members_view (sym (insert_end xs (n, v)))
+      ∙ put_inserts xs (length xs) (omega arith) order (λ j e. above_last xs j e last) (λ less. absurd (omega arith))
 
 below_middle : (k : List ℕ) (done : List Entry) (e : Entry) (more : List Entry)
     → IsBelow k (members_view (done ++ e ∷ more)) → slice_cmp nat_cmp k e.0.now ≡ Less

@@ -11,8 +11,26 @@ use crate::tree::Json;
 use std::alloc::{AllocError, Global};
 use std::collections::BTreeMap;
 
-/// Puts a member in its place.
+/// Puts a member in its place, which is mostly the last.
 pub(crate) fn put<'a>(
+    members: &mut Vec<(&'a str, Json<'a>)>,
+    name: &'a str,
+    value: Json<'a>,
+) -> Result<(), AllocError>
+    requires { IsInOrder (members_view members.old.items) }
+    ensures order { OnOk result (IsInOrder (members_view members.new.items)) }
+    ensures value { OnOk result (members_view members.new.items
+        ≡ with_member name.now (view value.entry) (members_view members.old.items)) }
+{
+    if is_last(members, name) {
+        members.push((name, value))?;
+        return Ok(());
+    }
+    put_in_place(members, name, value)
+}
+
+/// Puts a member in its place, wherever that is.
+fn put_in_place<'a>(
     members: &mut Vec<(&'a str, Json<'a>)>,
     name: &'a str,
     value: Json<'a>,

@@ -1,4 +1,5 @@
 pub mod Distinct
+pub mod Hashed
 pub mod Places
 pub mod Ordered
 pub mod Slotted

@@ -3,24 +3,22 @@ use Rattle.std.proofs.Common.{◌≡◌, ℕ, ◌+◌, ◌<◌, ◌≤◌, Bool,
 use Rattle.std.proofs.Common.{None, option_and_then, find, position, bytes_eq, inl, inr, ◌⊎◌, refl, sym, ap, subst, ◌∙◌, arith}
 use Rattle.std.proofs.Math.Nat.{eq-or-lt_of_le}
 use Rattle.std.proofs.lemmas.Bool.{lt-ltb, le-ltb, ltb-false, or_parts}
-use Rattle.std.proofs.lemmas.Cmp.{nat_list_cmp_total}
 use Rattle.std.proofs.lemmas.List.{get_or-map, length-map}
 use Rattle.std.proofs.lemmas.List.Folds.{find_at, list_any_none}
 use Rattle.std.proofs.lemmas.List.Sorted.{list_any-IsPermutation}
 use Rattle.std.proofs.lemmas.List.Sums.{position_or_len_is}
 use Rattle.std.proofs.lemmas.Map.Keys.{apart_from_distinct, Less-from_sorted}
-use Rattle.std.proofs.lemmas.Map.Text.{is_eq-slice_cmp}
 use Rattle.std.proofs.lemmas.Option.{slice_get_past}
 use Rattle.std.proofs.lemmas.Slice.Eq.{bytes_eq-Decides}
-use Rattle.std.specs.Cmp.Lexicographic.{slice_cmp}
 use Rattle.std.specs.List.{list_any, slice_get, position_or_len}
 use Rattle.std.specs.List.Sorted.{IsStrictlySortedBy}
-use Rattle.std.specs.Ordering.{nat_cmp, is_eq, ordering_reverse}
+use Rattle.std.specs.Ordering.{is_eq, ordering_reverse}
 use Rattle.std.specs.declared.cmp.Ordering.{Ordering}
 use Rattle.std.specs.declared.cmp.Ordering.TheVariants.{Less, Equal, Greater}
 use Rattle.named_list.specs.Distinct.{all_distinct}
-use Rattle.named_list.specs.Index.{names_at, IsIndex}
+use Rattle.named_list.specs.Index.{Place, hash_cmp, names_at, IsIndex}
 use Rattle.named_list.proofs.Distinct.{IsDistinct-from_true}
+use Rattle.named_list.proofs.Hashed.{hash_cmp_total, is_eq-hash_cmp}
 
 -- ---- the first place that passes a test
 
@@ -61,8 +59,8 @@ module _ {X : Type 0} (p : X → Bool) where
 
 -- ---- names
 
-apart_if : (x y : List ℕ) → is_eq (slice_cmp nat_cmp x y) ≡ false → bytes_eq x y ≡ false
-apart_if x y h = sym (is_eq-slice_cmp x y) ∙ h
+apart_if : (x y : List ℕ) → is_eq (hash_cmp x y) ≡ false → bytes_eq x y ≡ false
+apart_if x y h = sym (is_eq-hash_cmp x y) ∙ h
 
 module _ (s : List ℕ) where
   pub named_here : (names : List (List ℕ)) (i : ℕ) → all_distinct bytes_eq names ≡ true → i < length names
@@ -76,43 +74,43 @@ module _ (s : List ℕ) where
       same
 
   pub named_at : (names : List (List ℕ)) (i : ℕ) → all_distinct bytes_eq names ≡ true → i < length names
-      → slice_cmp nat_cmp (get_or names i []) s ≡ Equal → position (λ name. bytes_eq name s) names ≡ Some i
-  named_at names i distinct within here = named_here names i distinct within (sym (is_eq-slice_cmp (get_or names i []) s) ∙ ap is_eq here)
+      → hash_cmp (get_or names i []) s ≡ Equal → position (λ name. bytes_eq name s) names ≡ Some i
+  named_at names i distinct within here = named_here names i distinct within (sym (is_eq-hash_cmp (get_or names i []) s) ∙ ap is_eq here)
 
-  module _ (ordered : List (List ℕ)) (in_order : IsStrictlySortedBy (slice_cmp nat_cmp) ordered)
+  module _ (ordered : List (List ℕ)) (in_order : IsStrictlySortedBy hash_cmp ordered)
       (m : ℕ) (within : m < length ordered) (d : List ℕ) where
-    at_or_below : (k : ℕ) → (k ≡ m) ⊎ (k < m) → slice_cmp nat_cmp (get_or ordered m d) s ≡ Less
-        → slice_cmp nat_cmp (get_or ordered k d) s ≡ Less
-    at_or_below k (inl e) less = ap (λ j. slice_cmp nat_cmp (get_or ordered j d) s) e ∙ less
+    at_or_below : (k : ℕ) → (k ≡ m) ⊎ (k < m) → hash_cmp (get_or ordered m d) s ≡ Less
+        → hash_cmp (get_or ordered k d) s ≡ Less
+    at_or_below k (inl e) less = ap (λ j. hash_cmp (get_or ordered j d) s) e ∙ less
     at_or_below k (inr h) less =
-        nat_list_cmp_total.trans (get_or ordered k d) (get_or ordered m d) s
-        (Less-from_sorted (slice_cmp nat_cmp) ordered k m d in_order h within) less
+        hash_cmp_total.trans (get_or ordered k d) (get_or ordered m d) s
+        (Less-from_sorted hash_cmp ordered k m d in_order h within) less
 
-    apart_below : slice_cmp nat_cmp (get_or ordered m d) s ≡ Less → (k : ℕ) → k < m + 1 → bytes_eq (get_or ordered k d) s ≡ false
+    apart_below : hash_cmp (get_or ordered m d) s ≡ Less → (k : ℕ) → k < m + 1 → bytes_eq (get_or ordered k d) s ≡ false
     apart_below less k h = apart_if (get_or ordered k d) s (ap is_eq (at_or_below k (eq-or-lt_of_le (omega arith)) less))
 
-    turned : (x : List ℕ) → slice_cmp nat_cmp x s ≡ Greater → slice_cmp nat_cmp s x ≡ Less
-    turned x h = nat_list_cmp_total.antisymm s x ∙ ap ordering_reverse h
+    turned : (x : List ℕ) → hash_cmp x s ≡ Greater → hash_cmp s x ≡ Less
+    turned x h = hash_cmp_total.antisymm s x ∙ ap ordering_reverse h
 
     at_or_above : (k : ℕ) → (m ≡ k) ⊎ (m < k) → k < length ordered
-        → slice_cmp nat_cmp (get_or ordered m d) s ≡ Greater → slice_cmp nat_cmp s (get_or ordered k d) ≡ Less
-    at_or_above k (inl e) inside greater = ap (λ j. slice_cmp nat_cmp s (get_or ordered j d)) (sym e) ∙ turned (get_or ordered m d) greater
+        → hash_cmp (get_or ordered m d) s ≡ Greater → hash_cmp s (get_or ordered k d) ≡ Less
+    at_or_above k (inl e) inside greater = ap (λ j. hash_cmp s (get_or ordered j d)) (sym e) ∙ turned (get_or ordered m d) greater
     at_or_above k (inr h) inside greater =
-        nat_list_cmp_total.trans s (get_or ordered m d) (get_or ordered k d) (turned (get_or ordered m d) greater)
-        (Less-from_sorted (slice_cmp nat_cmp) ordered m k d in_order h inside)
+        hash_cmp_total.trans s (get_or ordered m d) (get_or ordered k d) (turned (get_or ordered m d) greater)
+        (Less-from_sorted hash_cmp ordered m k d in_order h inside)
 
-    apart_above : slice_cmp nat_cmp (get_or ordered m d) s ≡ Greater → (k : ℕ)
+    apart_above : hash_cmp (get_or ordered m d) s ≡ Greater → (k : ℕ)
         → m ≤ k → k < length ordered → bytes_eq (get_or ordered k d) s ≡ false
     apart_above greater k h inside =
         apart_if (get_or ordered k d) s
         (ap is_eq (
-        nat_list_cmp_total.antisymm (get_or ordered k d) s ∙ ap ordering_reverse (at_or_above k (eq-or-lt_of_le h) inside greater)))
+        hash_cmp_total.antisymm (get_or ordered k d) s ∙ ap ordering_reverse (at_or_above k (eq-or-lt_of_le h) inside greater)))
 
   pub none_of : (names : List (List ℕ)) → ((k : ℕ) (d : List ℕ) → k < length names → bytes_eq (get_or names k d) s ≡ false)
       → position (λ name. bytes_eq name s) names ≡ None
   none_of names none = position-none (λ name. bytes_eq name s) names (list_any_none (λ name. bytes_eq name s) names none)
 
-  pub absent : (names : List (List ℕ)) (places : List ℕ) → IsIndex names places
+  pub absent : (names : List (List ℕ)) (places : List Place) → IsIndex names places
       → ((k : ℕ) (d : List ℕ) → k < length places → bytes_eq (get_or (names_at names places) k d) s ≡ false)
       → position (λ name. bytes_eq name s) names ≡ None
   absent names places index none =
@@ -121,20 +119,20 @@ module _ (s : List ℕ) where
       ∙ list_any_none (λ name. bytes_eq name s) (names_at names places) (λ k d h. none k d (subst (λ n. k < n) (length-map places _) h)))
 
 -- what the name at a place of the index settles
-module _ (s : List ℕ) (names : List (List ℕ)) (places : List ℕ)
+module _ (s : List ℕ) (names : List (List ℕ)) (places : List Place)
     (index : IsIndex names places) (m : ℕ) (within : m < length places) (d : List ℕ) where
   fits : m < length (names_at names places)
   fits = subst (λ n. m < n) (sym (length-map places _)) within
 
-  there : (o : Ordering) → slice_cmp nat_cmp (get_or names (get_or places m 0) []) s ≡ o
-      → slice_cmp nat_cmp (get_or (names_at names places) m d) s ≡ o
-  there o h = ap (λ n. slice_cmp nat_cmp n s) (get_or-map (λ k. get_or names k []) places m 0 d within) ∙ h
+  there : (o : Ordering) → hash_cmp (get_or names (get_or places m (0, 0)).1 []) s ≡ o
+      → hash_cmp (get_or (names_at names places) m d) s ≡ o
+  there o h = ap (λ n. hash_cmp n s) (get_or-map (λ (p : Place). get_or names p.1 []) places m (0, 0) d within) ∙ h
 
-  pub none_below : slice_cmp nat_cmp (get_or names (get_or places m 0) []) s ≡ Less
+  pub none_below : hash_cmp (get_or names (get_or places m (0, 0)).1 []) s ≡ Less
       → (k : ℕ) → k < m + 1 → bytes_eq (get_or (names_at names places) k d) s ≡ false
   none_below less = apart_below s (names_at names places) index.in_order m fits d (there Less less)
 
-  pub none_above : slice_cmp nat_cmp (get_or names (get_or places m 0) []) s ≡ Greater → (k : ℕ)
+  pub none_above : hash_cmp (get_or names (get_or places m (0, 0)).1 []) s ≡ Greater → (k : ℕ)
       → m ≤ k → k < length places → bytes_eq (get_or (names_at names places) k d) s ≡ false
   none_above greater k h inside =
       apart_above s (names_at names places) index.in_order m fits d

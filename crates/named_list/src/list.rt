@@ -17,8 +17,8 @@ const SHORT: usize = 8;
 #[derive(Debug, Drop)]
 pub struct NamedList<T: Named> {
     items: Vec<T>,
-    /// The places of the items in the order of their names. A short list has none.
-    by_name: Vec<usize>,
+    /// The names' hashes with the places of the items, in their order. A short list has none.
+    by_hash: Vec<(u32, usize)>,
     /// Where the place of a name is looked for first. A short list has none.
     slots: Vec<u32>,
 }
@@ -34,7 +34,7 @@ impl<T: Named> Model for NamedList<T> {
     ghost view = { λ l. l.items.items };
 
     ghost invariant = { λ l. (all_distinct bytes_eq (map T.name l.items.items) ≡ true)
-        × (0 < length l.slots.items → IsIndex (map T.name l.items.items) l.by_name.items × HaveSlots l.slots.items (map T.name l.items.items)) };
+        × (0 < length l.slots.items → IsIndex (map T.name l.items.items) l.by_hash.items × HaveSlots l.slots.items (map T.name l.items.items)) };
 }
 
 impl<T: Named + Drop> NamedList<T> {
@@ -50,17 +50,17 @@ impl<T: Named + Drop> NamedList<T> {
             }
             return Ok(Some(NamedList {
                 items,
-                by_name: Vec::new(alloc),
+                by_hash: Vec::new(alloc),
                 slots: Vec::new(alloc),
             }));
         }
-        let Some(by_name) = index_of(alloc, items.as_slice())? else {
+        let Some(by_hash) = index_of(alloc, items.as_slice())? else {
             return Ok(None);
         };
-        let slots = slots_of(alloc, items.as_slice())?;
+        let slots = slots_of(alloc, by_hash.as_slice())?;
         Ok(Some(NamedList {
             items,
-            by_name,
+            by_hash,
             slots,
         }))
     }
@@ -89,7 +89,7 @@ impl<T: Named> NamedList<T> {
         if self.slots.is_empty() {
             place_in(items, name)
         } else {
-            place_by_slot(items, self.slots.as_slice(), self.by_name.as_slice(), name)
+            place_by_slot(items, self.slots.as_slice(), self.by_hash.as_slice(), name)
         }
     }
 
@@ -118,7 +118,7 @@ impl<T: Named> From<NamedList<T>> for Vec<T> {
     fn from(list: NamedList<T>) -> Vec<T> {
         let NamedList {
             items,
-            by_name: _,
+            by_hash: _,
             slots: _,
         } = list;
         items

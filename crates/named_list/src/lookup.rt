@@ -1,10 +1,9 @@
 // Where an item of a name is in a list.
 ghost use Rattle.std.specs.Prelude.{◌≡◌, true, map, position, option_copied, slice_get, bytes_eq, ◌<◌, length, slice_index_or, []};
-ghost use Rattle.std.specs.Cmp.Lexicographic.{slice_cmp};
-ghost use Rattle.std.specs.Ordering.{nat_cmp};
 ghost use Rattle.std.specs.List.{list_any};
 ghost use Rattle.named_list.specs.Distinct.{all_distinct};
-ghost use Rattle.named_list.specs.Index.{IsIndex};
+ghost use Rattle.named_list.specs.Index.{IsIndex, hash_cmp};
+ghost use Rattle.named_list.specs.Slots.{hash_from};
 
 use crate::Named;
 use base_text::Text;
@@ -40,30 +39,42 @@ pub(crate) fn place_in<T: Named>(items: &[T], name: &str) -> Option<usize>
     items.iter().position(|item| item.name().as_str() == name)
 }
 
-/// Where the item of that name is, looked for in the order of the names.
-pub(crate) fn place_in_order<T: Named>(items: &[T], by_name: &[usize], name: &str) -> Option<usize>
+/// Where the item of that name is, looked for in the order of the names' hashes.
+pub(crate) fn place_in_order<T: Named>(
+    items: &[T],
+    by_hash: &[(u32, usize)],
+    hash: u32,
+    name: &str,
+) -> Option<usize>
     requires distinct { all_distinct bytes_eq (map T.name items.now) ≡ true }
-    requires index { IsIndex (map T.name items.now) by_name.now }
+    requires index { IsIndex (map T.name items.now) by_hash.now }
+    requires hash { hash ≡ hash_from 0 name.now }
     ensures { result ≡ position (λ item. bytes_eq (T.name item) name.now) items.now }
 {
     let mut low = 0;
-    let mut high = by_name.len();
+    let mut high = by_hash.len();
     while low < high {
         let middle = low + (high - low) / 2;
-        let place = by_name[middle];
-        match compare_at(items, place, name) {
+        let entry = by_hash[middle];
+        match compare_at(items, entry, hash, name) {
             Ordering::Less => low = middle + 1,
-            Ordering::Equal => return Some(place),
+            Ordering::Equal => return Some(entry.1),
             Ordering::Greater => high = middle,
         }
     }
     None
 }
 
-/// How the name of the item at that place compares with a name.
-fn compare_at<T: Named>(items: &[T], place: usize, name: &str) -> Ordering
-    requires { place < length items.now }
-    ensures { result ≡ slice_cmp nat_cmp (slice_index_or (map T.name items.now) place []) name.now }
+/// How the name of the item of that hash and that place compares with a name.
+fn compare_at<T: Named>(items: &[T], entry: (u32, usize), hash: u32, name: &str) -> Ordering
+    requires within { entry.1 < length items.now }
+    requires known { entry.0 ≡ hash_from 0 (slice_index_or (map T.name items.now) entry.1 []) }
+    requires hash { hash ≡ hash_from 0 name.now }
+    ensures { result ≡ hash_cmp (slice_index_or (map T.name items.now) entry.1 []) name.now }
 {
-    items[place].name().as_str().cmp(name)
+    match entry.0.cmp(&hash) {
+        Ordering::Less => Ordering::Less,
+        Ordering::Equal => items[entry.1].name().as_str().cmp(name),
+        Ordering::Greater => Ordering::Greater,
+    }
 }

@@ -1,5 +1,6 @@
 // Slots, in which the place of a name is looked for first.
-ghost use Rattle.std.specs.Prelude.{◌≡◌, ◌<◌, true, IfOk, IfSome, Some, map, position, length, bytes_eq};
+ghost use Rattle.std.specs.Prelude.{◌≡◌, ◌<◌, ◌%◌, true, IfOk, IfSome, Some, map, position, length, bytes_eq, slice_index_or};
+ghost use Rattle.std.specs.List.{All};
 ghost use Rattle.named_list.specs.Distinct.{all_distinct};
 ghost use Rattle.named_list.specs.Index.{IsIndex};
 ghost use Rattle.named_list.specs.Slots as spec;
@@ -11,16 +12,19 @@ use std::alloc::{AllocError, Global};
 /// How many slots there are for an item: the more, the fewer items share one.
 const SLOTS_FOR_ITEM: usize = 6;
 
-/// Slots for the items: in the slot of each name is the place of an item of that slot, counted
-/// from 1, and in the others 0. The only error is out of memory.
-pub(crate) fn slots_of<T: Named>(alloc: Global, items: &[T]) -> Result<Vec<u32>, AllocError>
-    ensures { IfOk result (λ slots. spec.HaveSlots slots.items (map T.name items.now)) }
+/// Slots for the names of those hashes: in the slot of each is the place of an item of that slot,
+/// counted from 1, and in the others 0. The only error is out of memory.
+pub(crate) fn slots_of(alloc: Global, by_hash: &[(u32, usize)]) -> Result<Vec<u32>, AllocError>
+    ensures { IfOk result (λ slots. All (λ e. 0 < slice_index_or slots.items (e.0 % length slots.items) 0) by_hash.now) }
 {
-    let count = items.len().saturating_mul(SLOTS_FOR_ITEM).saturating_add(1);
+    let count = by_hash
+        .len()
+        .saturating_mul(SLOTS_FOR_ITEM)
+        .saturating_add(1);
     let mut slots = vec![in alloc; 0; count]?;
-    for (place, item) in items.iter().enumerate() {
-        let slot = slot_of(item.name().as_str(), count);
-        slots[slot] = slot_at(place);
+    for entry in by_hash {
+        let slot = slot_of(entry.0, count);
+        slots[slot] = slot_at(entry.1);
     }
     Ok(slots)
 }
@@ -32,17 +36,17 @@ fn slot_at(place: usize) -> u32
     u32::try_from(place.saturating_add(1)).unwrap_or(u32::MAX)
 }
 
-/// The slot of a name among so many.
-fn slot_of(name: &str, count: usize) -> usize
+/// The slot of a name of that hash among so many.
+fn slot_of(hash: u32, count: usize) -> usize
     requires { 0 < count }
-    ensures is { result ≡ spec.slot_of name.now count }
+    ensures is { result ≡ hash % count }
     ensures within { result < count }
 {
-    hash_of(name.as_bytes()) as usize % count
+    hash as usize % count
 }
 
 /// The hash of a name.
-fn hash_of(name: &[u8]) -> u32
+pub(crate) fn hash_of(name: &[u8]) -> u32
     ensures { result ≡ spec.hash_from 0 name.now }
 {
     let mut hash: u32 = 0;
@@ -54,21 +58,22 @@ fn hash_of(name: &[u8]) -> u32
     hash
 }
 
-/// Where the item of that name is, looked for in the slot of the name, and in the order of the names
-/// where that slot has the place of another.
+/// Where the item of that name is, looked for in the slot of the name, and in the order of the
+/// hashes where that slot has the place of another.
 pub(crate) fn place_by_slot<T: Named>(
     items: &[T],
     slots: &[u32],
-    by_name: &[usize],
+    by_hash: &[(u32, usize)],
     name: &str,
 ) -> Option<usize>
     requires distinct { all_distinct bytes_eq (map T.name items.now) ≡ true }
-    requires index { IsIndex (map T.name items.now) by_name.now }
+    requires index { IsIndex (map T.name items.now) by_hash.now }
     requires slots { spec.HaveSlots slots.now (map T.name items.now) }
     requires some { 0 < length slots.now }
     ensures { result ≡ position (λ item. bytes_eq (T.name item) name.now) items.now }
 {
-    let place = slots[slot_of(name, slots.len())];
+    let hash = hash_of(name.as_bytes());
+    let place = slots[slot_of(hash, slots.len())];
     if place == 0 {
         return None;
     }
@@ -76,7 +81,7 @@ pub(crate) fn place_by_slot<T: Named>(
     if is_named(items, place, name) {
         return Some(place);
     }
-    place_in_order(items, by_name, name)
+    place_in_order(items, by_hash, hash, name)
 }
 
 /// Whether the item at a place has that name.

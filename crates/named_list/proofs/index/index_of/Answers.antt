@@ -12,4 +12,4 @@ returns g c =
     answered (all_distinct bytes_eq (names_of entries) ≡ false) (all_distinct bytes_eq names ≡ false)
     (λ v. IsOrderOf entries v.items) (λ v. IsIndex names v.items)
     (λ h. ap (all_distinct bytes_eq) (sym same) ∙ h) (λ v h.
-    index_is names entries v.items same c.in_ok-entries.ensures.placed h) c.places_in_order.result c.places_in_order.ensures
+    index_is names entries v.items same c.in_ok-entries.ensures.placed c.in_ok-entries.ensures.hashed h) c.places_in_order.result c.places_in_order.ensures

@@ -1,10 +1,10 @@
-use Rattle.std.proofs.Common.{◌≡◌, ℕ, ◌<◌, List, length, map, get_or}
-use Rattle.named_list.specs.Slots as spec
+use Rattle.std.proofs.Common.{◌≡◌, ℕ, ◌<◌, ◌%◌, length, get_or}
+use Rattle.named_list.specs.Index.{Place}
 use Rattle.named_list.proofs.slots.slots_of.Given as goal
 
--- the slots of the names so far are not empty
-abbrev pub invariant-loop-place : goal.invariant-loop-place
-invariant-loop-place g l = record {
+-- the slots of the hashes so far are not empty
+abbrev pub invariant-loop-entry : goal.invariant-loop-entry
+invariant-loop-entry l = record {
   long : length l.slots.items ≡ l.count;
-  some : (k : ℕ) (d : List ℕ) → k < l.place → 0 < get_or l.slots.items (spec.slot_of (get_or (map g.T.Named.name l.items) k d) l.count) 0;
+  some : (k : ℕ) (d : Place) → k < l.entry-index → 0 < get_or l.slots.items ((get_or l.by_hash k d).0 % l.count) 0;
 }
