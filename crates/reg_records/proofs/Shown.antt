@@ -9,7 +9,8 @@ use Rattle.reg_records.specs.declared.key.Key.TheVariants.{Schema, Config, Mode,
 use Rattle.reg_records.specs.declared.value.Value.{Value}
 use Rattle.reg_records.specs.declared.value.Value.TheVariants as values
 use Rattle.reg_records.specs.declared.limits.TheConstants.{OFFSET_LIMIT}
-use Rattle.reg_records.specs.Written.{key_data, written_key, value_data, written_value}
+use Rattle.reg_records.specs.Written.{key_data, written_key}
+use Rattle.reg_records.specs.WrittenValue.{value_data, written_value}
 use Rattle.reg_records.specs.Written.{IsInLimits, HasNumbersInLimits}
 use Rattle.reg_records.specs.Written.{IsValueField, HasLine}
 use Rattle.reg_records.proofs.Controls.{are_shown, are_shown-append, are_shown-quoted, are_shown-decimal, is_free_of-are_shown}

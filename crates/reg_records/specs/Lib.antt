@@ -1,3 +1,4 @@
+mod Brought
 pub mod Device
 pub mod Errors
 pub mod Floor
@@ -9,3 +10,4 @@ pub mod LogSteps
 pub mod Pieces
 pub mod TextLine
 pub mod Written
+pub mod WrittenValue

@@ -1,8 +1,8 @@
--- What is written for a key and a value, compact JSON with its members in this order, and for a record.
-use Rattle.std.specs.Prelude.{◌≡◌, ◌<◌, ◌≤◌, ◌^◌, ⊤, ℕ, List, true, false, Option, Some, None}
-use Rattle.std.specs.Prelude.{IfSome, option_map, unwrap_or, bytes_eq, codes, decimal}
+-- What is written for a key, compact JSON with its members in this order, and for a record.
+use Rattle.std.specs.Prelude.{◌≡◌, ◌<◌, ◌≤◌, ◌^◌, ⊤, ℕ, List, true, false}
+use Rattle.std.specs.Prelude.{IfSome, unwrap_or, bytes_eq, codes, decimal}
 use Rattle.std.specs.Option.{ForSome, option_map_or}
-use Rattle.serde_json.specs.Data.{unsigned, Data, null, boolean, number, string, object, Members, no_members, member}
+use Rattle.serde_json.specs.Data.{unsigned, Data, null, number, string, object, Members, no_members, member}
 use Rattle.serde_json.specs.Written.{compact_text}
 use Rattle.reg_records.specs.declared.key.Key.{Key}
 use Rattle.reg_records.specs.declared.key.Key.TheVariants.{Schema, Config, Mode, DeleteSubject, Noop, IdMark}
@@ -45,22 +45,6 @@ IsVersionOrId n = (1 ≤ n) × (n ≤ NUMBER_LIMIT)
 -- the key's version is within its limits
 abbrev pub IsInLimits : Key → Type 0
 IsInLimits k = IfSome (key_version k) IsVersionOrId
-
--- the object that is written for a value; none for no operation
-abbrev pub value_data : Value → Option Data
-value_data (values.Schema subject version id schema deleted) = Some (object (member (codes "subject") (string subject)
-    (member (codes "version") (number (unsigned version)) (member (codes "id") (number (unsigned id))
-    (member (codes "schema") (string schema) (member (codes "deleted") (boolean deleted) no_members))))))
-value_data (values.Config level) = Some (object (member (codes "compatibilityLevel") (string level) no_members))
-value_data (values.Mode mode) = Some (object (member (codes "mode") (string mode) no_members))
-value_data (values.DeleteSubject subject version) =
-    Some (object (member (codes "subject") (string subject) (member (codes "version") (number (unsigned version)) no_members)))
-value_data values.Noop = None
-value_data (values.IdMark id) = Some (object (member (codes "id") (number (unsigned id)) no_members))
-
--- its text
-unfoldable pub written_value : Value → Option (List ℕ)
-written_value v = option_map compact_text (value_data v)
 
 -- the value's numbers are within their limits
 abbrev pub HasNumbersInLimits : Value → Type 0

@@ -1,9 +1,10 @@
 // The values of records, and the texts that are written for them.
-ghost use Rattle.std.specs.Prelude.{◌≡◌, ◌++◌, ◌≤◌, ℕ, IfOk, Some, codes, decimal, string_bytes};
+ghost use Rattle.std.specs.Prelude.{◌≡◌, ◌++◌, ◌≤◌, ℕ, IfOk, Some, codes, decimal, option_map, string_bytes};
 ghost use Rattle.json.specs.Print.{quoted};
 ghost use Rattle.serde_json.specs.Data.{boolean};
 ghost use Rattle.serde_json.specs.Written.{compact_text};
-ghost use Rattle.reg_records.specs.Written.{written_value, HasLine, HasNumbersInLimits, IsInLimits};
+ghost use Rattle.reg_records.specs.Written.{HasLine, HasNumbersInLimits, IsInLimits};
+ghost use Rattle.reg_records.specs.WrittenValue.{written_value};
 ghost use Rattle.reg_records.specs.declared.key.Key.{Key};
 ghost use Rattle.reg_records.specs.declared.value.Value.{Value};
 
@@ -14,7 +15,7 @@ use base_text::Text;
 use std::alloc::{AllocError, Global};
 
 /// What a record's value says of its key.
-#[derive(Debug, Drop, PartialEq, Eq)]
+#[derive(Clone, Debug, Drop, PartialEq, Eq)]
 pub enum Value {
     /// The schema of a version, as its text stands in the record, with its id from 1 to
     /// `NUMBER_LIMIT`.
@@ -43,10 +44,19 @@ pub enum Value {
 
 impl Value {
     /// The JSON text that is written for the value, without spaces and with its members in a fixed
-    /// order; `None` for no operation, which is written without a value. The only error is out of
-    /// memory.
+    /// order; `None` for no operation, which is written without a value. It brings the value along. The
+    /// only error is out of memory.
     pub fn written(&self, alloc: Global) -> Result<Option<ValueText>, AllocError>
         ensures { IfOk result (λ text. text ≡ written_value self.now) }
+    {
+        match self.text(alloc)? {
+            Some(text) => Ok(Some(ValueText::of_value(text, self)?)),
+            None => Ok(None),
+        }
+    }
+
+    fn text(&self, alloc: Global) -> Result<Option<String>, AllocError>
+        ensures { IfOk result (λ text. option_map string_bytes text ≡ written_value self.now) }
     {
         let text = match self {
             Value::Schema {
@@ -75,20 +85,19 @@ fn schema_value_text(
     id: u32,
     schema: &Text,
     deleted: bool,
-) -> Result<ValueText, AllocError>
-    ensures { IfOk result (λ text. Some text ≡ written_value (Value.Schema subject.now version id schema.now deleted)) }
+) -> Result<String, AllocError>
+    ensures { IfOk result (λ text. Some (string_bytes text) ≡ written_value (Value.Schema subject.now version id schema.now deleted)) }
 {
     let quoted_subject = quoted(alloc, subject.as_str())?;
     let quoted_schema = quoted(alloc, schema.as_str())?;
-    let text = schema_value_object(
+    schema_value_object(
         alloc,
         quoted_subject.as_str(),
         version,
         id,
         quoted_schema.as_str(),
         deleted,
-    )?;
-    ValueText::with_schema(text, schema)
+    )
 }
 
 /// The object of a version's value, whose subject and schema are written already.
@@ -110,31 +119,28 @@ fn schema_value_object(
 }
 
 /// The object whose only member is that text.
-fn member_text(alloc: Global, name: &str, text: &Text) -> Result<ValueText, AllocError>
-    ensures { IfOk result (λ object. object ≡ codes "{\"" ++ name.now ++ codes "\":" ++ quoted text.now ++ codes "}") }
+fn member_text(alloc: Global, name: &str, text: &Text) -> Result<String, AllocError>
+    ensures { IfOk result (λ object. string_bytes object ≡ codes "{\"" ++ name.now ++ codes "\":" ++ quoted text.now ++ codes "}") }
 {
     let text = quoted(alloc, text.as_str())?;
-    let object = format!(in alloc; "{{\"{name}\":{text}}}")?;
-    ValueText::of_string(object)
+    format!(in alloc; "{{\"{name}\":{text}}}")
 }
 
 fn delete_subject_value_text(
     alloc: Global,
     subject: &Text,
     version: u32,
-) -> Result<ValueText, AllocError>
-    ensures { IfOk result (λ text. Some text ≡ written_value (Value.DeleteSubject subject.now version)) }
+) -> Result<String, AllocError>
+    ensures { IfOk result (λ text. Some (string_bytes text) ≡ written_value (Value.DeleteSubject subject.now version)) }
 {
     let subject = quoted(alloc, subject.as_str())?;
-    let text = format!(in alloc; "{{\"subject\":{subject},\"version\":{version}}}")?;
-    ValueText::of_string(text)
+    format!(in alloc; "{{\"subject\":{subject},\"version\":{version}}}")
 }
 
-fn id_mark_value_text(alloc: Global, id: u32) -> Result<ValueText, AllocError>
-    ensures { IfOk result (λ text. Some text ≡ written_value (Value.IdMark id)) }
+fn id_mark_value_text(alloc: Global, id: u32) -> Result<String, AllocError>
+    ensures { IfOk result (λ text. Some (string_bytes text) ≡ written_value (Value.IdMark id)) }
 {
-    let text = format!(in alloc; "{{\"id\":{id}}}")?;
-    ValueText::of_string(text)
+    format!(in alloc; "{{\"id\":{id}}}")
 }
 
 /// A record whose value was written has a line, where its numbers are within their limits.

@@ -1,62 +1,82 @@
-// The text of a value, which may bring the text of its schema along.
-ghost use Rattle.std.specs.Prelude.{◌≡◌, Some, IfOk, nat_eq, refl, string_bytes};
+// The text of a value, which may bring along what it was written from.
+ghost use Rattle.std.specs.Prelude.{◌≡◌, Some, IfOk, IfSome, nat_eq, refl, string_bytes};
 ghost use Rattle.std.specs.Ordering.{nat_cmp};
 ghost use Rattle.std.specs.Cmp.Lexicographic.{pointwise, slice_cmp, nat_list_eq_equiv, nat_list_cmp_total, texts_ties, texts_po};
 ghost use Rattle.std.specs.Cmp.{partial_equiv_from_equiv};
+ghost use Rattle.reg_records.specs.WrittenValue.{written_value};
 
+use crate::value::Value;
 use base_text::Text;
 use std::alloc::{AllocError, Global};
 use std::cmp::Ordering;
 use std::marker::Model;
 
+/// What a value's text brings along.
+#[derive(Clone, Debug, Drop)]
+enum Brought {
+    Nothing,
+    /// The text of the schema that is read in it.
+    Schema(Text),
+    /// The value that it was written for.
+    Value(Value),
+}
+
 /// The text of a record's value. Contracts see its bytes.
 ///
-/// It may bring the text of its schema along, as one that was written for a version does, so that all
-/// who read the record share that one, in place of a copy each.
+/// It may bring along the value that it was written for, so that who takes the record in need not read
+/// the text again, or the text of its schema, so that all who read the record share that one, in place
+/// of a copy each.
 #[derive(Debug)]
 pub struct ValueText {
     text: Text,
-    schema: Option<Text>,
+    brought: Brought,
 }
 
 impl Model for ValueText {
     ghost use Rattle.std.specs.Prelude.{List, ℕ};
+    ghost use Rattle.reg_records.specs.Brought.{IsWrittenFor};
 
     ghost Value = { List ℕ };
 
     ghost view = { λ v. v.text };
+
+    ghost invariant = { λ v. IsWrittenFor v.text v.brought };
 }
 
 impl ValueText {
-    /// The text that a string holds. The only error is out of memory.
-    pub(crate) fn of_string(string: String) -> Result<ValueText, AllocError>
-        ensures { IfOk result (λ text. text ≡ string_bytes string) }
+    /// The text that was written for that value. The only error is out of memory.
+    pub(crate) fn of_value(text: String, value: &Value) -> Result<ValueText, AllocError>
+        requires { written_value value.now ≡ Some (string_bytes text) }
+        ensures { IfOk result (λ written. written ≡ string_bytes text) }
     {
         Ok(ValueText {
-            text: Text::of_string(string)?,
-            schema: None,
+            text: Text::of_string(text)?,
+            brought: Brought::Value(value.clone()?),
         })
     }
 
-    /// The text that a string holds, which brings the text of its schema along. The only error is
-    /// out of memory.
-    pub(crate) fn with_schema(string: String, schema: &Text) -> Result<ValueText, AllocError>
-        ensures { IfOk result (λ text. text ≡ string_bytes string) }
-    {
-        Ok(ValueText {
-            text: Text::of_string(string)?,
-            schema: Some(schema.clone()?),
-        })
-    }
-
-    /// The same text, which brings that text of its schema along. The only error is out of memory.
+    /// The same text, which brings that text of its schema along, unless it brings its value. The only
+    /// error is out of memory.
     pub fn bringing(&self, schema: &Text) -> Result<ValueText, AllocError>
         ensures { IfOk result (λ text. text ≡ self.now) }
     {
+        if let Brought::Value(_) = &self.brought {
+            return self.clone();
+        }
         Ok(ValueText {
             text: self.text.clone()?,
-            schema: Some(schema.clone()?),
+            brought: Brought::Schema(schema.clone()?),
         })
+    }
+
+    /// The value that the text was written for, where it brings it.
+    pub fn value(&self) -> Option<&Value>
+        ensures { IfSome result (λ value. written_value value.now ≡ Some self.now) }
+    {
+        match &self.brought {
+            Brought::Value(value) => Some(value),
+            Brought::Schema(_) | Brought::Nothing => None,
+        }
     }
 
     /// The text itself.
@@ -71,7 +91,7 @@ impl ValueText {
     pub fn share(&self, alloc: Global, schema: &str) -> Result<Text, AllocError>
         ensures { IfOk result (λ text. text ≡ schema.now) }
     {
-        if let Some(brought) = &self.schema {
+        if let Brought::Schema(brought) = &self.brought {
             if brought.as_str() == schema {
                 return brought.clone();
             }
@@ -84,16 +104,19 @@ impl From<Text> for ValueText {
     ghost from_gives = { λ text value. value ≡ text };
 
     fn from(text: Text) -> ValueText {
-        ValueText { text, schema: None }
+        ValueText {
+            text,
+            brought: Brought::Nothing,
+        }
     }
 }
 
 /// Gives up its shares of the texts.
 impl Drop for ValueText {
     fn drop(self) {
-        let ValueText { text, schema } = self;
+        let ValueText { text, brought } = self;
         drop(text);
-        drop(schema);
+        drop(brought);
     }
 }
 
@@ -103,7 +126,7 @@ impl Clone for ValueText {
     fn clone(&self) -> Result<ValueText, AllocError> {
         Ok(ValueText {
             text: self.text.clone()?,
-            schema: self.schema.clone()?,
+            brought: self.brought.clone()?,
         })
     }
 }

@@ -16,7 +16,8 @@ use Rattle.reg_records.specs.declared.key.Key.TheVariants.{Schema, Config, Mode,
 use Rattle.reg_records.specs.declared.value.Value.{Value}
 use Rattle.reg_records.specs.declared.value.Value.TheVariants as values
 use Rattle.reg_values.specs.Value.{value_in, value_of}
-use Rattle.reg_records.specs.Written.{value_data, written_value, IsVersionOrId}
+use Rattle.reg_records.specs.Written.{IsVersionOrId}
+use Rattle.reg_records.specs.WrittenValue.{value_data, written_value}
 use Rattle.reg_values.specs.OfKey.{IsValueOf}
 
 -- the object that is written for a value

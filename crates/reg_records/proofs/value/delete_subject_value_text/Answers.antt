@@ -2,7 +2,7 @@ use Rattle.std.proofs.Common.{◌≡◌, ◌∙◌, ◌++◌, ℕ, List, Some, c
 use Rattle.std.proofs.lemmas.Result.{IfOk-weaker}
 use Rattle.json.specs.Print.{escape_byte, quoted}
 use Rattle.reg_records.specs.declared.value.Value.TheVariants.{DeleteSubject}
-use Rattle.reg_records.specs.Written.{written_value}
+use Rattle.reg_records.specs.WrittenValue.{written_value}
 use Rattle.reg_records.proofs.value.delete_subject_value_text.Goals as goal
 
 value_text : (written subject : List ℕ) (version : ℕ) → written ≡ quoted subject
@@ -14,6 +14,6 @@ value_text written subject version e =
 
 pub returns : goal.returns
 returns c =
-    IfOk-weaker c.of_string.result _ _ (λ _ same.
-    ap Some (same ∙ c.in_ok-text.ensures.ok)
-    ∙ value_text _ _ _ (c.in_ok-subject.ensures ∙ ap quoted c.as_str.ensures)) c.of_string.ensures
+    IfOk-weaker c.format.result _ _ (λ _ same.
+    ap Some same
+    ∙ value_text _ _ _ (c.in_ok-subject.ensures ∙ ap quoted c.as_str.ensures)) c.format.ensures.ok

@@ -2,7 +2,7 @@ use Rattle.std.proofs.Common.{◌≡◌, ◌∙◌, ◌++◌, ℕ, Some, codes, 
 use Rattle.std.proofs.lemmas.Result.{IfOk-weaker}
 use Rattle.json.specs.Print.{escape_byte}
 use Rattle.reg_records.specs.declared.value.Value.TheVariants.{IdMark}
-use Rattle.reg_records.specs.Written.{written_value}
+use Rattle.reg_records.specs.WrittenValue.{written_value}
 use Rattle.reg_records.proofs.value.id_mark_value_text.Goals as goal
 
 value_text : (id : ℕ) → Some (codes "{\"id\":" ++ (decimal id ++ codes "}")) ≡ written_value (IdMark id)
@@ -10,5 +10,4 @@ unfolding written_value escape_byte
 value_text id = simp append_assoc
 
 pub returns : goal.returns
-returns c =
-    IfOk-weaker c.of_string.result _ _ (λ _ same. ap Some (same ∙ c.in_ok-text.ensures.ok) ∙ value_text _) c.of_string.ensures
+returns c = IfOk-weaker c.format.result _ _ (λ _ same. ap Some same ∙ value_text _) c.format.ensures.ok

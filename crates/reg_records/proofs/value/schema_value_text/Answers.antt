@@ -4,7 +4,7 @@ use Rattle.json.specs.Print.{escape_byte, quoted}
 use Rattle.serde_json.specs.Data.{boolean}
 use Rattle.serde_json.specs.Written.{compact_text}
 use Rattle.reg_records.specs.declared.value.Value.TheVariants.{Schema}
-use Rattle.reg_records.specs.Written.{written_value}
+use Rattle.reg_records.specs.WrittenValue.{written_value}
 use Rattle.reg_records.proofs.value.schema_value_text.Goals as goal
 
 value_text : (subject : List ℕ) (version id : ℕ) (schema : List ℕ) (deleted : Bool)
@@ -16,4 +16,4 @@ unfolding written_value escape_byte
 value_text subject version id schema deleted = simp append_assoc
 
 pub returns : goal.returns
-returns c = IfOk-weaker c.with_schema.result _ _ (λ _ same. ap Some same ∙ search (rules, value_text)) c.with_schema.ensures
+returns c = IfOk-weaker c.schema_value_object.result _ _ (λ _ same. ap Some same ∙ search (rules, value_text)) c.schema_value_object.ensures
