@@ -1,3 +1,4 @@
+mod BroughtValues
 pub mod WithNormal
 pub mod OfKeys
 pub mod ReadsBack

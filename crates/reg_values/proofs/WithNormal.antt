@@ -4,19 +4,15 @@ use Rattle.std.proofs.Common.{option_map, is_some, codes, IfOk, IfSome, Result, 
 use Rattle.std.specs.declared.alloc.AllocError.{AllocError}
 use Rattle.std.proofs.lemmas.Result.{IfOk-weaker}
 use Rattle.serde_json.specs.Data.{Data}
-use Rattle.serde_json.specs.Read.{read}
-use Rattle.serde_json.specs.View.{view}
-use Rattle.serde_json.specs.declared.value.Value.{Value as Json}
 use Rattle.avro_schema.specs.Reading.{normal_of}
 use Rattle.avro_schema.specs.Schema.{Meaning, is_schema, schema_of}
 use Rattle.reg_records.specs.Json.{has_number_at, has_text_at, number_at, text_at}
 use Rattle.reg_values.specs.declared.decoding.Decoded.{Decoded}
-use Rattle.reg_records.specs.declared.key.Key.{Key}
 use Rattle.reg_records.specs.declared.key.Key.TheVariants as keys
 use Rattle.reg_records.specs.declared.value.Value.{Value}
-use Rattle.reg_records.specs.declared.value.Value.TheVariants.{Schema, Noop}
+use Rattle.reg_records.specs.declared.value.Value.TheVariants.{Schema}
 use Rattle.reg_records.specs.declared.record.Record.{Record}
-use Rattle.reg_values.specs.Value.{is_noop, value_in, value_of, value_of_text, deleted_in, is_plain_avro, normal_in}
+use Rattle.reg_values.specs.Value.{value_in, value_of, value_of_text, deleted_in, is_plain_avro, normal_in}
 use Rattle.reg_values.specs.WithNormal.{with_normal}
 
 normal-with_normal : (o : Option Value) → IfSome (option_map with_normal o) (λ d. d.normal ≡ normal_in d.value)
@@ -41,15 +37,6 @@ pub normal_in-decoded : (decoded : Result (Option Decoded) AllocError) (found : 
 normal_in-decoded decoded found is =
     IfOk-weaker decoded _ _ (λ d e.
     subst (λ (o : Option Decoded). IfSome o (λ x. x.normal ≡ normal_in x.value)) (sym e) (normal-with_normal found)) is
-
--- the value of a text that is a JSON value, under every key but that of no operation
-pub value_of_text-read : (key : Key) (text : List ℕ) (found : Option Json) (json : Json)
-    → is_noop key ≡ false → option_map view found ≡ read text → found ≡ Some json
-    → value_in key (view json) ≡ value_of_text key text
-value_of_text-read key text found json other is_read is =
-    sym (
-    ap (λ b. if b then Some Noop else option_and_then (value_in key) (read text)) other
-    ∙ ap (option_and_then (value_in key)) (sym is_read ∙ ap (option_map view) is))
 
 -- the value of a record that has a text
 pub value_of-text : (r : Record) (text : List ℕ) → r.value ≡ Some text → value_of_text r.key text ≡ value_of r

@@ -1,3 +1,4 @@
+pub mod Brought
 pub mod Value
 pub mod OfKey
 pub mod WithNormal

@@ -1,5 +1,5 @@
 // What the values of records mean.
-ghost use Rattle.std.specs.Prelude.{◌≡◌, ◌≤◌, ◌&&◌, ℕ, true, IsTrue, IfOk, IfSome, Some, None, codes, option_map};
+ghost use Rattle.std.specs.Prelude.{◌≡◌, ◌≤◌, ◌&&◌, ℕ, true, false, IsTrue, IfOk, IfSome, Some, None, codes, option_map};
 ghost use Rattle.std.specs.Option.{option_map_or};
 ghost use Rattle.serde_json.specs.View.{view};
 ghost use Rattle.avro_schema.specs.Reading.{normal_of};
@@ -13,6 +13,7 @@ ghost use Rattle.reg_values.specs.OfKey.{IsValueOf, ValuesAreOfKeys};
 ghost use Rattle.reg_values.specs.Value.{value_of, value_of_text, is_noop, normal_in, value_in, is_plain_avro, is_absent_or, is_avro_name, is_empty_list, deleted_in};
 ghost use Rattle.reg_values.specs.WithNormal.{with_normal};
 
+use crate::brought::decode_brought;
 use avro_schema::{KnownNormal, Schema};
 use base_text::Text;
 use reg_level_names::Level;
@@ -73,6 +74,22 @@ fn decode_text(
     if is_noop(key) {
         return Ok(Some(without_normal(Value::Noop)));
     }
+    if let Some(decoded) = decode_brought(alloc, key, text, &known)? {
+        return Ok(Some(decoded));
+    }
+    read_text(alloc, key, text, &known)
+}
+
+/// What a text says under that key, read from the text.
+fn read_text(
+    alloc: Global,
+    key: &Key,
+    text: &ValueText,
+    known: &Option<KnownNormal<'_>>,
+) -> Result<Option<Decoded>, AllocError>
+    requires { is_noop key.now ≡ false }
+    ensures { IfOk result (λ found. found ≡ option_map with_normal (value_of_text key.now text.now)) }
+{
     match parse(alloc, text.as_str())? {
         Some(json) => decode_in(alloc, key, text, &json, known),
         None => Ok(None),
@@ -90,7 +107,7 @@ fn decode_in(
     key: &Key,
     text: &ValueText,
     json: &Json,
-    known: Option<KnownNormal<'_>>,
+    known: &Option<KnownNormal<'_>>,
 ) -> Result<Option<Decoded>, AllocError>
     ensures { IfOk result (λ found. found ≡ option_map with_normal (value_in key.now (view json.now))) }
 {
@@ -112,7 +129,7 @@ fn decode_schema(
     version: u32,
     given: &ValueText,
     json: &Json,
-    known: Option<KnownNormal<'_>>,
+    known: &Option<KnownNormal<'_>>,
 ) -> Result<Option<Decoded>, AllocError>
     ensures { IfOk result (λ found. found ≡ option_map with_normal (value_in (Key.Schema subject.now version) (view json.now))) }
 {
@@ -140,14 +157,14 @@ fn is_about_version(json: &Json, subject: &Text, version: u32) -> bool
 }
 
 /// A version's value with its schema's normal text; `None` where its text is no schema.
-fn decode_version(
+pub(crate) fn decode_version(
     alloc: Global,
     subject: &Text,
     version: u32,
     id: u32,
     text: Text,
     deleted: bool,
-    known: Option<KnownNormal<'_>>,
+    known: &Option<KnownNormal<'_>>,
 ) -> Result<Option<Decoded>, AllocError>
     ensures { IfOk result (λ found. found ≡ option_map (λ normal. record { value = Value.Schema subject.now version id text deleted; normal = Some normal }) (normal_of text)) }
 {
@@ -174,7 +191,7 @@ fn decode_version(
 fn normal_of(
     alloc: Global,
     text: &Text,
-    known: Option<KnownNormal<'_>>,
+    known: &Option<KnownNormal<'_>>,
 ) -> Result<Option<Text>, AllocError>
     ensures { IfOk result (λ normal. normal ≡ normal_of text.now) }
 {
@@ -189,10 +206,10 @@ fn normal_of(
 }
 
 /// The normal text of that text, where it is known.
-fn known_normal<'a>(known: Option<KnownNormal<'a>>, text: &Text) -> Option<&'a Text>
+fn known_normal<'a>(known: &Option<KnownNormal<'a>>, text: &Text) -> Option<&'a Text>
     ensures { IfSome result (λ normal. normal_of text.now ≡ Some normal.now) }
 {
-    known?.of(text)
+    known.as_ref()?.of(text)
 }
 
 fn decode_config(alloc: Global, json: &Json) -> Result<Option<Decoded>, AllocError>
@@ -250,7 +267,7 @@ fn decode_id_mark(json: &Json) -> Option<Decoded>
 }
 
 /// A value that is no version's.
-fn without_normal(value: Value) -> Decoded
+pub(crate) fn without_normal(value: Value) -> Decoded
     requires { normal_in value ≡ None }
     ensures { result ≡ with_normal value }
 {

@@ -1,6 +1,7 @@
 //! What the values of records mean: schemas, levels, modes and deletes.
 #![tactic(auto)]
 
+mod brought;
 mod decoding;
 
 pub use avro_schema;
