@@ -1,4 +1,5 @@
-// The kept records: the last ones, which the registry holds, and older ones beside them.
+// The kept records: the last record of each key, which the registry holds, and older ones beside
+// them.
 ghost use Rattle.std.specs.Prelude.{[], true, ◌≡◌, ◌++◌, ◌&&◌, ◌||◌, IfOk, IfSome, IsTrue, OnErr, OnOk, not, nat_le, nat_lt};
 ghost use Rattle.std.specs.FinSet.{contains, from_list, union};
 ghost use Rattle.std.specs.List.{filter, list_all};
@@ -16,15 +17,16 @@ use reg_records::Record;
 use reg_set::{RecordSet, records_are_ordered};
 use std::alloc::{AllocError, Global};
 
-/// So many records are sought in a list of others one by one; more in their set.
+/// Lists of at most this many records are searched one by one; longer ones by their set.
 const FEW: usize = 8;
 
-/// A list has room for one record more of so many, and for so many at least.
+/// A list gets room for one more record for every `PART` that it has, and for `LEAST` more at
+/// least.
 const PART: usize = 8;
 
 const LEAST: usize = 64;
 
-/// The records at or above an offset.
+/// Returns the records at or above the offset `from`.
 pub(crate) fn since(by_offset: &[Record], from: u64) -> &[Record]
     requires { IsRising by_offset.now }
     ensures { result.now ≡ filter (λ r. nat_le from r.offset) by_offset.now }
@@ -37,7 +39,7 @@ pub(crate) fn since(by_offset: &[Record], from: u64) -> &[Record]
     &by_offset[start..]
 }
 
-/// The records below an offset.
+/// Returns the records below the offset `upto`.
 pub(crate) fn until(by_offset: &[Record], upto: u64) -> &[Record]
     requires { IsRising by_offset.now }
     ensures { result.now ≡ filter (λ r. nat_lt r.offset upto) by_offset.now }
@@ -50,7 +52,8 @@ pub(crate) fn until(by_offset: &[Record], upto: u64) -> &[Record]
     &by_offset[..end]
 }
 
-/// Older records of which many are sought: their set, or none where a few are.
+/// Returns the set of the older records if more than `FEW` records will be looked up in it, else
+/// `None`. The only error is out of memory.
 fn sought_among(alloc: Global, older: &[Record], count: usize) -> Result<Option<Sought>, AllocError>
     ensures { IfOk result (λ found. IfSome found (λ set. set ≡ from_list older.now)) }
 {
@@ -60,7 +63,8 @@ fn sought_among(alloc: Global, older: &[Record], count: usize) -> Result<Option<
     Ok(Some(Sought::of(alloc, older)?))
 }
 
-/// Whether the record is the last of its key, or among the older ones, whose set may be given beside them.
+/// Returns whether the record is the last of its key, or among the older ones. `set` may hold the
+/// set of the older ones.
 fn is_kept(registry: &Registry, older: &[Record], set: &Option<Sought>, given: &Record) -> bool
     requires { IfSome set.now (λ set. set ≡ from_list older.now) }
     ensures { result ≡ (contains registry.now given.now || contains (from_list {R = record_cmp} older.now) given.now) }
@@ -70,7 +74,7 @@ fn is_kept(registry: &Registry, older: &[Record], set: &Option<Sought>, given: &
     last || among
 }
 
-/// Whether the record is among the older ones, whose set may be given beside them.
+/// Returns whether the record is among the older ones. `set` may hold their set.
 fn is_among(older: &[Record], set: &Option<Sought>, given: &Record) -> bool
     requires { IfSome set.now (λ set. set ≡ from_list older.now) }
     ensures { result ≡ contains (from_list {R = record_cmp} older.now) given.now }
@@ -81,6 +85,7 @@ fn is_among(older: &[Record], set: &Option<Sought>, given: &Record) -> bool
     }
 }
 
+/// Returns whether the record is in the list, by comparing it with each of them.
 pub(crate) fn is_listed(older: &[Record], given: &Record) -> bool
     ensures { result ≡ contains (from_list {R = record_cmp} older.now) given.now }
 {
@@ -88,9 +93,9 @@ pub(crate) fn is_listed(older: &[Record], given: &Record) -> bool
     older.contains(given)
 }
 
-/// Copies of those of the records by offset that are kept, at or above an offset. Where all are asked for, and none
-/// was dropped, none is sought, and the copies bring no text along: who asks for all has the registry too. The only
-/// error is out of memory.
+/// Copies the kept ones among the records by offset, from the offset `from` on. If all are asked
+/// for and none was dropped, nothing is looked up, and the copies share no text with the registry:
+/// a caller that asks for all copies the registry too. The only error is out of memory.
 pub(crate) fn copy_since(
     alloc: Global,
     registry: &Registry,
@@ -115,8 +120,8 @@ pub(crate) fn copy_since(
     Ok(found)
 }
 
-/// Copies of those of the records that are kept, with the texts that the registry has. The only error is out of
-/// memory.
+/// Copies the kept ones among the records; the copies share texts with the registry. The only error
+/// is out of memory.
 fn copy_kept(
     alloc: Global,
     registry: &Registry,
@@ -136,7 +141,8 @@ fn copy_kept(
     Ok(found)
 }
 
-/// Copies of those of the records that are kept and below an offset. The only error is out of memory.
+/// Copies the kept ones among the records that are below the offset `upto`. The only error is out
+/// of memory.
 pub(crate) fn copy_below(
     alloc: Global,
     registry: &Registry,
@@ -157,7 +163,7 @@ pub(crate) fn copy_below(
     Ok(found)
 }
 
-/// Copies of the records that aren't the last of their keys. The only error is out of memory.
+/// Copies the records that aren't the last of their keys. The only error is out of memory.
 pub(crate) fn copy_older(
     alloc: Global,
     registry: &Registry,
@@ -174,8 +180,8 @@ pub(crate) fn copy_older(
     Ok(found)
 }
 
-/// Copies of those of the records that are last ones and delete their keys below the floor. The only error
-/// is out of memory.
+/// Copies the records that are the last of their keys and delete them below the floor. The only
+/// error is out of memory.
 pub(crate) fn copy_deletes(
     alloc: Global,
     registry: &Registry,
@@ -193,8 +199,8 @@ pub(crate) fn copy_deletes(
     Ok(found)
 }
 
-/// Copies of the older records that aren't gone, and aren't the last of their keys. The only error is
-/// out of memory.
+/// Copies the older records that aren't in `gone` and aren't the last of their keys. The only error
+/// is out of memory.
 pub(crate) fn copy_left(
     alloc: Global,
     registry: &Registry,
@@ -212,7 +218,8 @@ pub(crate) fn copy_left(
     Ok(left)
 }
 
-/// Whether the records may leave, where those older ones are left then, and that is the floor.
+/// Returns whether a compaction to this floor may drop the records, if `left` are the older ones
+/// that remain.
 pub(crate) fn may_leave(
     registry: &Registry,
     older: &Sought,
@@ -227,8 +234,8 @@ pub(crate) fn may_leave(
         .all(|given| may_go(registry, older, left, floor, given))
 }
 
-/// Whether the record may leave: it is a last one that deletes its key below the floor, of which none is
-/// left, or an older one.
+/// Returns whether a compaction may drop the record: it is an older one, or the last of its key,
+/// deletes it below the floor, and no record of that key is left.
 fn may_go(registry: &Registry, older: &Sought, left: &RecordSet, floor: u64, given: &Record) -> bool
     ensures { result ≡ may_go registry.now older.now left.now floor given.now }
 {
@@ -238,21 +245,21 @@ fn may_go(registry: &Registry, older: &Sought, left: &RecordSet, floor: u64, giv
     older.contains(given)
 }
 
-/// Leaves the last records alone.
+/// Removes all records but the last ones of their keys.
 pub(crate) fn keep_lasts(registry: &Registry, by_offset: &mut Vec<Record>)
     ensures { by_offset.new.items ≡ filter (contains registry.now) by_offset.old.items }
 {
     by_offset.retain(|record| registry.contains(record));
 }
 
-/// Whether there is no record.
+/// Returns whether the list is empty.
 pub(crate) fn are_none(records: &[Record]) -> bool
     ensures { result ≡ true → records.now ≡ [] }
 {
     records.is_empty()
 }
 
-/// Adds copies of all records behind them, or none. The only error is out of memory.
+/// Appends copies of all records of the batch, or of none. The only error is out of memory.
 pub(crate) fn push_all(records: &mut Vec<Record>, batch: &[Record]) -> Result<(), AllocError>
     ensures added { OnOk result (records.new.items ≡ records.old.items ++ batch.now) }
     ensures refused { OnErr result (records.new.items ≡ records.old.items) }
@@ -260,12 +267,12 @@ pub(crate) fn push_all(records: &mut Vec<Record>, batch: &[Record]) -> Result<()
     records.extend_from_slice(batch)
 }
 
-/// How many more records a list of so many has room for, so that the next ones need no copy of all.
+/// Returns how many more records a list of `count` gets room for, so that appends rarely copy it.
 fn spare(count: usize) -> usize {
     (count / PART).saturating_add(LEAST)
 }
 
-/// The records of a set in their order, with room for more. The only error is out of memory.
+/// Lists the records of a set in their order, with room for more. The only error is out of memory.
 pub(crate) fn list_records(set: &RecordSet) -> Result<Vec<Record>, AllocError>
     ensures in_order { IfOk result (λ found. IsTrue (is_in_order found.items)) }
     ensures members { IfOk result (λ found. set.now ≡ from_list found.items) }
@@ -275,7 +282,7 @@ pub(crate) fn list_records(set: &RecordSet) -> Result<Vec<Record>, AllocError>
     Ok(records)
 }
 
-/// A copy of a list, with room for more. The only error is out of memory.
+/// Copies a list, with room for more. The only error is out of memory.
 pub(crate) fn copy_list(alloc: Global, records: &[Record]) -> Result<Vec<Record>, AllocError>
     ensures { IfOk result (λ copy. copy.items ≡ records.now) }
 {
@@ -285,7 +292,7 @@ pub(crate) fn copy_list(alloc: Global, records: &[Record]) -> Result<Vec<Record>
     Ok(copy)
 }
 
-/// Copies of all records. The only error is out of memory.
+/// Copies all records. The only error is out of memory.
 pub(crate) fn copy_all(alloc: Global, records: &[Record]) -> Result<Vec<Record>, AllocError>
     ensures { IfOk result (λ copy. copy.items ≡ records.now) }
 {
@@ -294,7 +301,7 @@ pub(crate) fn copy_all(alloc: Global, records: &[Record]) -> Result<Vec<Record>,
     Ok(copy)
 }
 
-/// Copies of the last records of the batch's keys. The only error is out of memory.
+/// Copies the last record of each key in the batch. The only error is out of memory.
 fn copy_lasts(
     alloc: Global,
     registry: &Registry,
@@ -311,8 +318,9 @@ fn copy_lasts(
     Ok(found)
 }
 
-/// Adds the batch to all three, or to none: what was last before it joins the older records. The other
-/// registry, if there is one, may have read the batch, and its schema may be the known one. The only error is out of memory.
+/// Adds the batch to all three, or to none; a record that was the last of its key joins the older
+/// ones. If `other` is a registry that has read the batch, or `known` is its schema, texts aren't
+/// read again. The only error is out of memory.
 pub(crate) fn grow(
     alloc: Global,
     registry: &mut Registry,

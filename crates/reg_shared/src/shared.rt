@@ -1,4 +1,4 @@
-// What the topic's list folds to.
+// The value that a list of the topic's items folds to.
 ghost use Rattle.std.specs.Prelude.{◌≡◌, ◌<◌, ◌≤◌, true, false, IfErr, IfOk, IsTrue, OnErr, OnOk};
 ghost use Rattle.std.specs.FinSet.{from_list};
 ghost use Rattle.std.specs.List.{AllByRecursion};
@@ -28,34 +28,35 @@ use reg_topic::{Compaction, Item, follows};
 use std::alloc::{AllocError, Global};
 use std::marker::{Brand, Model};
 
-/// How many dropped records there may be among those by offset, at least, before they go.
+/// At least this many records have to be dropped before the list by offset is trimmed.
 const DROPPED: usize = 64;
 
-/// The kept set of a topic with its floor and its next offset, with the registry over the last records. A
-/// commit costs what it holds. Contracts see the kept set, the next offset, and what that was at the last
-/// compaction.
+/// The published state of a topic: its kept set with the floor (the low-water mark of compaction),
+/// the next offset, and the registry over the last records. Applying a commit costs what its batch
+/// holds. Contracts see the kept set, the next offset, and what that was at the last compaction.
 #[derive(Drop)]
 pub struct Shared {
-    // Held, since taking in an item is given none.
+    // Stored, since `take_item` gets no allocator.
     alloc: Global,
     registry: Registry,
-    // The kept records that aren't the last of their keys are among these; others are last ones.
+    // Holds all kept records that aren't the last of their keys, beside some that are.
     older: Vec<Record>,
-    // All kept records, by offset, among some that were dropped.
+    // All kept records by offset, among some that were dropped.
     by_offset: Vec<Record>,
-    // How many were dropped since only kept ones stood there: 0 where all that stand there are kept.
+    // How many were dropped since the last trim: 0 if all records in `by_offset` are kept.
     dropped: usize,
     floor: u64,
     next: u64,
     compacted: u64,
 }
 
-/// What a topic begins with.
+/// A topic's first state.
 #[derive(Drop)]
 pub struct Begun {
-    /// What is held of it.
+    /// The published state.
     pub shared: Shared,
-    /// The records that it begins with beside its log: the mark of ids that the log owes, or none.
+    /// The records that the topic begins with beside its log: the id mark (a record of the highest
+    /// id ever given) if the log owes one, else none.
     pub due: Vec<Record>,
 }
 
@@ -73,8 +74,9 @@ impl Model for Shared {
 }
 
 impl Shared {
-    /// What is held of the topic that begins with a log, and with the mark of ids that the log owes,
-    /// unless it takes no commands.
+    /// Makes the first state of a topic from a log and the id mark that the log owes. Refused if a
+    /// version's record can't be read, if an id names two schemas, if no offset is left for a mark
+    /// that is due, or if memory is refused.
     pub fn adopt(alloc: Global, base: &Log) -> Result<Begun, AdoptError>
         ensures held { IfOk result (λ begun. begun.shared ≡ held_of (topic_from base.now.records.items base.now.next base.now.floor)) }
         ensures due { IfOk result (λ begun. begun.due.items ≡ owed_by base.now.records.items base.now.next) }
@@ -89,8 +91,8 @@ impl Shared {
         Ok(Begun { shared, due })
     }
 
-    /// What is held of a log's records alone, of which those are the set and the registry. The only
-    /// error is out of memory.
+    /// Makes the state of a log's records alone; `log` is their set and `registry` their registry.
+    /// The only error is out of memory.
     fn of_log(
         alloc: Global,
         base: &Log,
@@ -117,36 +119,37 @@ impl Shared {
         })
     }
 
-    /// The registry over the last records.
+    /// Returns the registry over the last records.
     pub fn registry(&self) -> &Registry
         ensures { result.now ≡ last_records self.now.kept.records }
     {
         &self.registry
     }
 
-    /// The offset of the next record.
+    /// Returns the offset of the next record.
     pub fn next(&self) -> u64
         ensures { result ≡ self.now.next }
     {
         self.next
     }
 
-    /// The floor of the kept set.
+    /// Returns the floor of the kept set.
     pub fn floor(&self) -> u64
         ensures { result ≡ self.now.kept.floor }
     {
         self.floor
     }
 
-    /// What the offset of the next record was at the last compaction; where there was none, the floor
-    /// that the topic began with.
+    /// Returns what the next offset was at the last compaction, or the floor that the topic began
+    /// with if there was none.
     pub fn compacted(&self) -> u64
         ensures { result ≡ self.now.compacted }
     {
         self.compacted
     }
 
-    /// Copies of the kept records at or above an offset, in their order. The only error is out of memory.
+    /// Copies the kept records at or above the offset `from`, in their order. The only error is out
+    /// of memory.
     pub fn since(&self, from: u64) -> Result<Vec<Record>, AllocError>
         ensures all { IfOk result (λ found. IsSince self.now.kept.records from found.items) }
         ensures in_order { IfOk result (λ found. IsTrue (is_in_order found.items)) }
@@ -164,7 +167,7 @@ impl Shared {
         Ok(found)
     }
 
-    /// Copies of the kept records below an offset. The only error is out of memory.
+    /// Copies the kept records below the offset `upto`. The only error is out of memory.
     pub fn below(&self, upto: u64) -> Result<Vec<Record>, AllocError>
         ensures { IfOk result (λ found. IsBelow self.now.kept.records upto found.items) }
     {
@@ -179,8 +182,9 @@ impl Shared {
         Ok(found)
     }
 
-    /// The kept records that a compaction to that floor drops: those that aren't the last of their keys,
-    /// and the last ones that delete their keys below it. The only error is out of memory.
+    /// Copies the kept records that a compaction to `floor` drops: those that aren't the last of
+    /// their keys, and last ones that delete their keys below the floor. The only error is out of
+    /// memory.
     pub fn dropped_to(&self, floor: u64) -> Result<Vec<Record>, AllocError>
         ensures may_go { IfOk result (λ found. may_leave floor self.now.kept.records found.items ≡ true) }
         ensures rest { IfOk result (λ found. without self.now.kept.records found.items ≡ compacted_to floor self.now.kept.records) }
@@ -194,8 +198,9 @@ impl Shared {
         Ok(found)
     }
 
-    /// Takes in a batch, which the other registry, if there is one, may have read, and whose schema may be the known one. The only error
-    /// is out of memory; all is then as it was.
+    /// Applies a batch. A batch that doesn't follow on the next offset changes nothing. If `other`
+    /// is a registry that has read the batch, or `known` is its schema, texts aren't read again.
+    /// The only error is out of memory; nothing has changed then.
     fn take_batch(
         &mut self,
         batch: &[Record],
@@ -225,7 +230,8 @@ impl Shared {
         Ok(())
     }
 
-    /// Takes in a compaction. The only error is out of memory; all is then as it was.
+    /// Applies a compaction. One that isn't allowed changes nothing. The only error is out of
+    /// memory; nothing has changed then.
     fn take_compaction(&mut self, compaction: &Compaction) -> Result<(), AllocError>
         ensures taken { OnOk result (self.new
             ≡ held_after_compaction (may_compact (base_of self.old) compaction.now) self.old compaction.now) }
@@ -237,7 +243,8 @@ impl Shared {
         self.drop_records(compaction)
     }
 
-    /// Takes in a compaction whose floor may be set.
+    /// Applies a compaction whose floor is allowed. One that drops records that have to stay
+    /// changes nothing. The only error is out of memory; nothing has changed then.
     fn drop_records(&mut self, compaction: &Compaction) -> Result<(), AllocError>
         requires rises { self.old.kept.floor ≤ compaction.now.floor }
         requires ahead { compaction.now.floor ≤ self.old.next }
@@ -257,15 +264,15 @@ impl Shared {
         }
         self.older = left;
         self.registry.forget_all(dropped);
-        // It counts for one at least, since what is left isn't looked at.
+        // Counted as one at least, since `by_offset` wasn't searched for dropped records.
         self.dropped = self.dropped.saturating_add(dropped.len()).max(1);
         self.floor = compaction.floor;
         self.compacted = self.next;
         Ok(())
     }
 
-    /// Leaves the kept records alone among those by offset, where half of them were dropped. So each
-    /// record that is dropped pays for one that is looked at.
+    /// Removes the dropped records from the list by offset once they are more than half of it and
+    /// no older record is kept. So each dropped record pays for one that is looked at.
     fn trim(&mut self)
         ensures { self.new ≡ self.old }
     {
@@ -285,7 +292,7 @@ impl Fold<Item> for Shared {
 
     ghost applied = { held_after };
 
-    // Each item that is published may follow on those before it.
+    // Each published item may follow on those before it.
     ghost publishes = { λ first list. IsLawful (base_of first) list };
 
     fn take_item(&mut self, item: &Item, other: &Shared) -> Result<(), AllocError> {
@@ -307,7 +314,7 @@ impl Fold<Item> for Shared {
     }
 }
 
-/// The topic's feed. A program that makes one picks both at its call.
+/// The topic's feed. A program that makes one picks its book and its first value at the call.
 impl FeedName<Item, Shared> for Brand {
     ghost use Rattle.std.specs.FinSet.{empty};
 

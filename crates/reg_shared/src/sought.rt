@@ -1,4 +1,4 @@
-// Records among which others are sought.
+// A set of records for lookups, by offset.
 ghost use Rattle.std.specs.Prelude.{◌≡◌, IfOk, IfSome, nat_le};
 ghost use Rattle.std.specs.FinSet.{contains, from_list};
 ghost use Rattle.std.specs.List.{filter};
@@ -12,15 +12,15 @@ use reg_set::{RecordSet, records_are_ordered};
 use std::alloc::{AllocError, Global};
 use std::marker::Model;
 
-/// So many records at one offset are looked at one by one.
+/// Up to this many records at one offset are compared one by one.
 const FEW: usize = 8;
 
-/// Records by offset. So a record is sought by numbers, and no keys are compared but those at its offset. Contracts
-/// see their set.
+/// A set of records, sorted by offset. A lookup compares numbers first, and keys only at the same
+/// offset. Contracts see the set.
 #[derive(Drop)]
 pub(crate) struct Sought {
     by_offset: Vec<Record>,
-    // Their set, where more than a few stand at one offset: so it doesn't matter how many do.
+    // The set, if more than `FEW` records have the same offset, so that lookups stay fast.
     many: Option<RecordSet>,
 }
 
@@ -42,7 +42,7 @@ impl Model for Sought {
 }
 
 impl Sought {
-    /// Those records. The only error is out of memory.
+    /// Makes the set of the records. The only error is out of memory.
     pub(crate) fn of(alloc: Global, records: &[Record]) -> Result<Sought, AllocError>
         ensures { IfOk result (λ found. found ≡ from_list records.now) }
     {
@@ -53,7 +53,7 @@ impl Sought {
         Ok(Sought { by_offset, many })
     }
 
-    /// Whether the record is among them.
+    /// Returns whether the record is in the set.
     pub(crate) fn contains(&self, given: &Record) -> bool
         ensures { result ≡ contains self.now given.now }
     {
@@ -64,7 +64,8 @@ impl Sought {
     }
 }
 
-/// The set of the records, where more than a few stand at one offset.
+/// Returns the set of the records if more than `FEW` of them have the same offset. The only error
+/// is out of memory.
 fn set_of_many(alloc: Global, by_offset: &[Record]) -> Result<Option<RecordSet>, AllocError>
     ensures { IfOk result (λ found. IfSome found (λ set. set ≡ from_list by_offset.now)) }
 {
@@ -74,7 +75,8 @@ fn set_of_many(alloc: Global, by_offset: &[Record]) -> Result<Option<RecordSet>,
     Ok(Some(RecordSet::of(alloc, by_offset)?))
 }
 
-/// Whether no more than a few stand at each offset. Nothing is promised of it.
+/// Returns whether at most `FEW` records have the same offset. It affects speed only; no contract
+/// depends on it.
 fn are_few_at_each(by_offset: &[Record]) -> bool {
     let mut offset = 0;
     let mut count: usize = 0;
@@ -91,7 +93,7 @@ fn are_few_at_each(by_offset: &[Record]) -> bool {
     true
 }
 
-/// Whether the record is among those at its offset.
+/// Returns whether the record is among those at its offset.
 fn is_at_its_offset(by_offset: &[Record], given: &Record) -> bool
     requires { IsRising by_offset.now }
     ensures { result ≡ contains (from_list {R = record_cmp} by_offset.now) given.now }
@@ -102,7 +104,7 @@ fn is_at_its_offset(by_offset: &[Record], given: &Record) -> bool
     is_listed(there, given)
 }
 
-/// Puts the records in order by offset.
+/// Sorts the records by offset.
 fn put_by_offset(records: &mut Vec<Record>)
     ensures moved { IsPermutation records.old.items records.new.items }
     ensures rising { IsRising records.new.items }
@@ -110,7 +112,7 @@ fn put_by_offset(records: &mut Vec<Record>)
     records.sort_unstable_by_key(|record| record.offset);
 }
 
-/// The records up to an offset, those at it among them.
+/// Returns the records at or below the offset.
 fn up_to(by_offset: &[Record], offset: u64) -> &[Record]
     requires { IsRising by_offset.now }
     ensures { result.now ≡ filter (λ r. nat_le r.offset offset) by_offset.now }

@@ -1,4 +1,4 @@
-// What a new schema of a subject is judged against.
+// The grounds on which a new schema of a subject is judged.
 ghost use Rattle.std.specs.Prelude.{◌≡◌, ◌↔◌, None, Some, true, IsTrue, IfErr, IfOk, IfSome, map};
 ghost use Rattle.avro_schema.specs.Schema.{schema_of};
 ghost use Rattle.reg_levels.specs.Judgement.{IsMadeOf, IsTrueVerdict, first_unread};
@@ -17,11 +17,11 @@ use reg_rules::{live_looked_at, live_versions_are_read};
 use std::alloc::{AllocError, Global};
 use std::marker::Model;
 
-/// The longest text, in bytes, that a judge is asked about.
+/// The longest text, in bytes, for which the judge's cache is used.
 const LONGEST_KEPT: usize = 4_096;
 
-/// What a new schema of a subject is judged against: the level in force, and the live versions that it
-/// looks at, with copies of their texts.
+/// What a new schema of a subject is checked against: the level in force, and the live versions
+/// that this level looks at, with copies of their texts.
 #[derive(Debug, Drop)]
 pub(crate) struct Against {
     level: Level,
@@ -38,13 +38,13 @@ impl Model for Against {
 
     ghost view = { λ a. record { level = a.level; olds = a.olds } };
 
-    // Each of those texts is a schema's.
+    // Each of these texts is a schema.
     ghost invariant = { λ a. HasRisingVersions a.olds × (first_unread a.olds ≡ None) };
 }
 
 impl Against {
-    /// What a new schema of the subject is judged against over a registry. The only error is out of
-    /// memory.
+    /// Copies from a registry what a new schema of the subject is checked against. The only error
+    /// is out of memory.
     pub(crate) fn over(
         alloc: Global,
         registry: &Registry,
@@ -59,8 +59,9 @@ impl Against {
         Ok(Against { level, olds })
     }
 
-    /// Whether a new schema of the subject is judged against the same over a registry: whatever becomes of
-    /// versions that the level doesn't look at. The only error is out of memory.
+    /// Returns whether a new schema of the subject would be checked against the same over this
+    /// registry. Versions that the level doesn't look at don't matter. The only error is out of
+    /// memory.
     pub(crate) fn stands(
         &self,
         alloc: Global,
@@ -76,8 +77,9 @@ impl Against {
         Ok(are_texts_of(self.olds.as_slice(), &looked_at))
     }
 
-    /// The judgement of a new schema's text. The versions are read, or taken from what the judge keeps; the new text isn't read where
-    /// its schema is given.
+    /// Judges a new schema. Old texts are read, or taken from the judge's cache; the new text isn't
+    /// read if `new` has its schema. Refused if a text isn't a schema, the new one first, or if
+    /// memory is refused.
     pub(crate) fn judged(
         &self,
         alloc: Global,
@@ -98,8 +100,8 @@ impl Against {
     }
 }
 
-/// The verdict on a new schema's text, by the judge where no text that counts is longer than 4,096 bytes, else
-/// without it.
+/// Returns the verdict on a new schema. The judge's cache is used if no text that counts is longer
+/// than 4,096 bytes, else none is.
 fn verdict_on(
     alloc: Global,
     level: Level,
@@ -124,7 +126,8 @@ fn verdict_on(
     Ok(check_read_texts(alloc, level, &new, olds)?)
 }
 
-/// The schema of a text, if it has one: the given one, or read. The only error is out of memory.
+/// Returns the given schema, or reads the text's; `None` if the text isn't a schema. The only error
+/// is out of memory.
 fn given_or_read(
     alloc: Global,
     text: &str,
@@ -139,12 +142,12 @@ fn given_or_read(
     }
 }
 
-/// Whether a judge is asked about the text.
+/// Returns whether the text is short enough for the judge's cache.
 fn is_kept(text: &str) -> bool {
     text.len() <= LONGEST_KEPT
 }
 
-/// The versions of those entries, with copies of the texts that they hold.
+/// Copies the versions and texts of the entries. The only error is out of memory.
 fn copy_texts(alloc: Global, entries: &[&Entry]) -> Result<Listed<(u32, Text)>, AllocError>
     ensures { IfOk result (λ olds. olds ≡ texts_of (map (λ e. e.now) entries.now)) }
 {
@@ -155,7 +158,7 @@ fn copy_texts(alloc: Global, entries: &[&Entry]) -> Result<Listed<(u32, Text)>, 
     Ok(Listed::from(olds))
 }
 
-/// Whether they are the versions of those entries, with the texts that they hold.
+/// Returns whether these are the versions and texts of the entries.
 fn are_texts_of(olds: &[(u32, Text)], entries: &[&Entry]) -> bool
     ensures { IsTrue result ↔ (olds.now ≡ map (λ e. (e.now.version, e.now.text)) entries.now) }
 {
@@ -170,6 +173,7 @@ fn are_texts_of(olds: &[(u32, Text)], entries: &[&Entry]) -> bool
     true
 }
 
+/// Returns whether this is the version and text of the entry.
 fn is_text_of(old: &(u32, Text), entry: &Entry) -> bool
     ensures { IsTrue result ↔ (old.now ≡ (entry.now.version, entry.now.text)) }
 {

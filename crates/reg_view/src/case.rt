@@ -1,4 +1,4 @@
-// A registration that is to be judged.
+// A registration that waits for its judgement.
 ghost use Rattle.std.specs.Prelude.{◌≡◌, ◌↔◌, Some, true, IfErr, IfOk};
 ghost use Rattle.avro_schema.specs.Schema.{schema_of};
 ghost use Rattle.reg_levels.specs.Judgement.{IsMadeOf};
@@ -14,8 +14,9 @@ use reg_levels::{Judged, JudgedError};
 use std::alloc::{AllocError, Global};
 use std::marker::Model;
 
-/// A registration that is to be judged: its subject, its schema's normal text, and copies of what that
-/// is judged against. Its schema goes to the judge with the first judgement.
+/// A registration that waits for its judgement: its subject, its schema's normal text, and copies
+/// of what it is checked against. The first judgement hands the parsed schema to the judge; later
+/// ones have its text only.
 #[derive(Drop)]
 pub struct Case {
     alloc: Global,
@@ -38,7 +39,7 @@ impl Model for Case {
 }
 
 impl Case {
-    /// The case of a schema, which that normal text means, against that. Takes no memory.
+    /// Makes the case of a schema whose normal text is `new_text`. Takes no memory.
     pub(crate) fn of(
         alloc: Global,
         subject: Text,
@@ -58,8 +59,9 @@ impl Case {
         }
     }
 
-    /// The judgement, by the judge where no text that counts is longer than 4,096 bytes, else without it. Refused
-    /// where a text is no schema's, the new one's fault first, or where memory is.
+    /// Judges the case. The judge's cache is used if no text that counts is longer than 4,096
+    /// bytes, else none is. Refused if a text isn't a schema, the new one first, or if memory is
+    /// refused. The case stays the same.
     pub fn judged(&mut self, judge: &mut Judge) -> Result<Judged, JudgedError>
         ensures made { IfOk result (λ j. IsMadeOf j self.old.standing.level self.old.new_text self.old.standing.olds) }
         ensures refused { IfErr result (IsJudgedRefusal self.old.new_text self.old.standing.olds) }
@@ -71,7 +73,7 @@ impl Case {
             .judged(self.alloc, &self.new_text, schema, judge)
     }
 
-    /// The judgement, of a case that is judged once.
+    /// Judges a case that isn't needed afterwards, with the errors of [`Case::judged`].
     pub(crate) fn into_judged(self, judge: &mut Judge) -> Result<Judged, JudgedError>
         ensures made { IfOk result (λ j. IsMadeOf j self.standing.level self.new_text self.standing.olds) }
         ensures refused { IfErr result (IsJudgedRefusal self.new_text self.standing.olds) }
@@ -81,14 +83,16 @@ impl Case {
         case.judged(judge)
     }
 
-    /// Whether it is the case of the same registration over a registry. The only error is out of memory.
+    /// Returns whether the registration would be checked against the same over this registry. The
+    /// only error is out of memory.
     pub fn stands(&self, registry: &Registry) -> Result<bool, AllocError>
         ensures { IfOk result (λ yes. (yes ≡ true) ↔ (against registry.now self.now.subject ≡ self.now.standing)) }
     {
         self.against.stands(self.alloc, registry, &self.subject)
     }
 
-    /// The case of the same registration over another registry. The only error is out of memory.
+    /// Makes the case of the same registration over another registry. The only error is out of
+    /// memory.
     pub fn anew(self, registry: &Registry) -> Result<Case, AllocError>
         ensures { IfOk result (λ case. case ≡ record self { standing = against registry.now self.subject }) }
     {

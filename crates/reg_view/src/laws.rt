@@ -1,8 +1,7 @@
-// The law of judgements. What is proved here costs nothing at run time: a function that needs the law
-// calls it.
+// The law of judgements. It costs nothing at run time: a function that needs it calls it.
 ghost use Rattle.reg_view.specs.Alike.{AlikeJudgesAlike};
 
-/// Over sets of last records that give the same, registrations are judged alike.
+/// States that two sets of last records that answer alike also judge registrations alike.
 pub fn alike_judges_alike()
     ensures { AlikeJudgesAlike }
 {}

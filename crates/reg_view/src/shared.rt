@@ -1,4 +1,4 @@
-// What is held of the topic shows the registry over its kept set.
+// The published state of the topic shows the registry over its kept set.
 use crate::shows::ShowsRegistry;
 use reg_fold::Registry;
 use reg_shared::{Shared, kept_gives_registry, published_lists_fold};

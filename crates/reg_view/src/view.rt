@@ -1,4 +1,4 @@
-// What answers from a feed whose value shows a registry, and waits for nobody.
+// A snapshot reader of a feed whose value shows a registry.
 ghost use Rattle.std.specs.Prelude.{◌≡◌, ◌≢◌, ◌⊎◌, None, IfNone, IfOk, IfSome, OnOk};
 ghost use mathlib.Core.List.{IsPrefix};
 ghost use Rattle.reg_feed.specs.Published.{WasPublished};
@@ -26,8 +26,8 @@ use reg_lookup::{Answer, Grounds, Query, answer};
 use std::alloc::{AllocError, Global};
 use std::marker::Model;
 
-/// What answers queries from a feed. Contracts see it as the front of the feed's list that it saw or was
-/// told of.
+/// A snapshot of a feed that answers queries and never blocks. Contracts see it as the prefix of
+/// the feed's list (its *front*) that it saw or was told of.
 #[derive(Drop)]
 pub struct View<T: Drop, V: ShowsRegistry<T> + Drop, N: FeedName<T, V>, S: Copies<T, V, N>> {
     alloc: Global,
@@ -46,7 +46,7 @@ impl<T: Drop, V: ShowsRegistry<T> + Drop, N: FeedName<T, V>, S: Copies<T, V, N>>
 }
 
 impl<T: Drop, V: ShowsRegistry<T> + Drop, N: FeedName<T, V>, S: Copies<T, V, N>> View<T, V, N, S> {
-    /// A view that reads a feed.
+    /// Makes a view over a reader of the feed.
     pub fn new(alloc: Global, reader: FeedReader<T, V, N, S>) -> View<T, V, N, S>
         requires { V.begins N.first }
         ensures { result ≡ reader }
@@ -54,14 +54,14 @@ impl<T: Drop, V: ShowsRegistry<T> + Drop, N: FeedName<T, V>, S: Copies<T, V, N>>
         View { alloc, reader }
     }
 
-    /// The front of the list that it saw or was told of.
+    /// Returns the prefix that it saw or was told of.
     pub fn seen(&self) -> &Seen<T, V, N>
         ensures { result.now ≡ self.now }
     {
         self.reader.seen()
     }
 
-    /// Its front becomes the longer of the two.
+    /// Moves to the longer of its own prefix and the told one.
     pub fn learn(&mut self, told: &Seen<T, V, N>)
         ensures one { (self.new ≡ self.old) ⊎ (self.new ≡ told.now) }
         ensures this { IsPrefix self.old self.new }
@@ -70,12 +70,12 @@ impl<T: Drop, V: ShowsRegistry<T> + Drop, N: FeedName<T, V>, S: Copies<T, V, N>>
         self.reader.learn(told);
     }
 
-    /// The answer over what some published list shows that begins with all that this view
-    /// saw or was told of; that list is then what it saw. It waits for nobody. The only error is
-    /// out of memory, or that the writer is gone.
+    /// Answers a query from a published list that extends all that this view saw or was told of;
+    /// that list then counts as seen. It never blocks. The only error is out of memory; it also
+    /// comes if the feed's writer is gone.
     ///
-    /// What a check is answered on is copied, and then answered on, so that a long check holds nobody
-    /// up.
+    /// For a check, what it needs is copied first and then checked, so that a long check holds up
+    /// nobody.
     pub fn lookup(&mut self, alloc: Global, query: &Query) -> Result<Answer, AllocError>
         ensures answered { IfOk result (IsAnswer (last_records (V.comes_to N.first self.new)) query.now) }
         ensures answers_for { IfOk result (IsAnswer (V.answers_for N.first self.new) query.now) }
@@ -87,9 +87,8 @@ impl<T: Drop, V: ShowsRegistry<T> + Drop, N: FeedName<T, V>, S: Copies<T, V, N>>
         look_or_check(alloc, &mut self.reader, query)
     }
 
-    /// The judgement of a registration over what some published list shows that begins with
-    /// all that this view saw or was told of; that list is then what it saw. `None` where `try_judge` has
-    /// none, where memory was refused, and where the writer is gone.
+    /// Judges a registration as [`View::try_judge`] does. `None` also if memory is refused or the
+    /// feed's writer is gone.
     pub fn judge(&mut self, command: &Command, judge: &mut Judge) -> Option<Judged>
         ensures judged { IfSome result (IsJudgementOf (last_records (V.comes_to N.first self.new)) command.now) }
         ensures answers_for { IfSome result (IsJudgementOf (V.answers_for N.first self.new) command.now) }
@@ -102,11 +101,12 @@ impl<T: Drop, V: ShowsRegistry<T> + Drop, N: FeedName<T, V>, S: Copies<T, V, N>>
         }
     }
 
-    /// The judgement of a registration over such a list. `None` for each other command, and where the text, or
-    /// that of a live version that the level looks at, is no schema's. The only error is out of memory, or
-    /// that the writer is gone.
+    /// Judges a registration over a published list that extends all that this view saw or was told
+    /// of; that list then counts as seen. `None` for every other command, and if the new text, or
+    /// that of a live version that the level looks at, isn't a schema. The only error is out of
+    /// memory; it also comes if the feed's writer is gone.
     ///
-    /// What it is judged against is copied, and then judged, so that a long judgement holds nobody up.
+    /// What the text is checked against is copied first, so that a long check holds up nobody.
     #[tactic(auto, using(crate::proofs::Matters::no_judgement, crate::proofs::Matters::nothing_judged))]
     pub fn try_judge(
         &mut self,
@@ -132,8 +132,9 @@ impl<T: Drop, V: ShowsRegistry<T> + Drop, N: FeedName<T, V>, S: Copies<T, V, N>>
         }
     }
 
-    /// What is to be judged of a registration, over such a list. `None` for each other command, and where the
-    /// text is no schema's. The only error is out of memory, or that the writer is gone.
+    /// Makes the case of a registration over a published list that extends all that this view saw
+    /// or was told of. `None` for every other command, and if the text isn't a schema. The only
+    /// error is out of memory; it also comes if the feed's writer is gone.
     pub fn case(&mut self, command: &Command) -> Result<Option<Case>, AllocError>
         ensures case { IfOk result (λ found. IfSome found (IsMatterOf (last_records (V.comes_to N.first self.new)) command.now)) }
         ensures answers_for { IfOk result (λ found. IfSome found (IsMatterOf (V.answers_for N.first self.new) command.now)) }
@@ -146,7 +147,8 @@ impl<T: Drop, V: ShowsRegistry<T> + Drop, N: FeedName<T, V>, S: Copies<T, V, N>>
     }
 }
 
-/// What is to be judged of a registration.
+/// Makes the case of a registration; `None` for every other command, and if the text isn't a
+/// schema.
 #[tactic(auto, using(crate::proofs::Matters::no_matter))]
 fn case_of<T: Drop, V: ShowsRegistry<T> + Drop, N: FeedName<T, V>, S: Copies<T, V, N>>(
     alloc: Global,
@@ -164,7 +166,8 @@ fn case_of<T: Drop, V: ShowsRegistry<T> + Drop, N: FeedName<T, V>, S: Copies<T, 
     copy_case(alloc, reader, subject, text)
 }
 
-/// Refuses a judgement for which memory was refused: every other cause is a text that isn't read.
+/// Passes on that memory was refused; every other error says that a text isn't a schema, and is
+/// dropped.
 fn must_be_unread(error: JudgedError) -> Result<(), AllocError>
     ensures { OnOk result (error ≢ JudgedError.OutOfMemory) }
 {
@@ -174,7 +177,7 @@ fn must_be_unread(error: JudgedError) -> Result<(), AllocError>
     }
 }
 
-/// The answer to a query.
+/// Answers a query.
 fn look_or_check<T: Drop, V: ShowsRegistry<T> + Drop, N: FeedName<T, V>, S: Copies<T, V, N>>(
     alloc: Global,
     reader: &mut FeedReader<T, V, N, S>,
@@ -196,7 +199,7 @@ fn look_or_check<T: Drop, V: ShowsRegistry<T> + Drop, N: FeedName<T, V>, S: Copi
     }
 }
 
-/// The answer of a check.
+/// Answers a check.
 fn check<T: Drop, V: ShowsRegistry<T> + Drop, N: FeedName<T, V>, S: Copies<T, V, N>>(
     alloc: Global,
     reader: &mut FeedReader<T, V, N, S>,
@@ -214,7 +217,7 @@ fn check<T: Drop, V: ShowsRegistry<T> + Drop, N: FeedName<T, V>, S: Copies<T, V,
     grounds.answer(alloc, text.as_str(), verbose)
 }
 
-/// What a check is answered on.
+/// Copies what a check needs.
 fn copy_grounds<T: Drop, V: ShowsRegistry<T> + Drop, N: FeedName<T, V>, S: Copies<T, V, N>>(
     alloc: Global,
     reader: &mut FeedReader<T, V, N, S>,
@@ -238,7 +241,7 @@ fn copy_grounds<T: Drop, V: ShowsRegistry<T> + Drop, N: FeedName<T, V>, S: Copie
     }
 }
 
-/// What is to be judged of a registration, if its text is a schema's.
+/// Makes the case of a registration if its text is a schema.
 fn copy_case<T: Drop, V: ShowsRegistry<T> + Drop, N: FeedName<T, V>, S: Copies<T, V, N>>(
     alloc: Global,
     reader: &mut FeedReader<T, V, N, S>,
@@ -259,7 +262,7 @@ fn copy_case<T: Drop, V: ShowsRegistry<T> + Drop, N: FeedName<T, V>, S: Copies<T
     Ok(Some(Case::of(alloc, subject, new_text, schema, against)))
 }
 
-/// What a new schema is judged against.
+/// Copies what a new schema of the subject is checked against.
 fn copy_against<T: Drop, V: ShowsRegistry<T> + Drop, N: FeedName<T, V>, S: Copies<T, V, N>>(
     alloc: Global,
     reader: &mut FeedReader<T, V, N, S>,
@@ -281,6 +284,7 @@ fn copy_against<T: Drop, V: ShowsRegistry<T> + Drop, N: FeedName<T, V>, S: Copie
     }
 }
 
+/// Answers any query but a check, straight from the shown registry.
 fn look<T: Drop, V: ShowsRegistry<T> + Drop, N: FeedName<T, V>, S: Copies<T, V, N>>(
     alloc: Global,
     reader: &mut FeedReader<T, V, N, S>,
