@@ -1,4 +1,4 @@
-// A node's desk, of which each worker has one for all its connections.
+// The desk (request handler) of a node. Each worker has one for all its connections.
 ghost use Rattle.std.specs.Prelude.{◌≡◌, true, false, None, MatchBool, option_map};
 ghost use mathlib.Core.List.{IsPrefix};
 ghost use Rattle.reg_desk.specs.Desk.{IsFresh, front_of};
@@ -24,13 +24,13 @@ use std::marker::Model;
 use std::sync::atomic::AtomicU64;
 use std::sync::{Mutex, Wait};
 
-/// A node's desk. A registration is judged by what the view shows. Then the command goes to the pen, once;
-/// the other nodes are woken; then the node's follower learns, pulls and publishes, and the view learns,
-/// before the reply is given. Queries are answered from the view.
+/// The request handler of a node. Queries are answered from the view. A registration is judged over
+/// what the view shows; then the command goes to the pen, once. The other nodes are woken, the
+/// node's follower learns, pulls and publishes, and the view learns, all before the reply is given.
 ///
-/// Contracts see the topic's front of the last command, its own or one that it learnt of, the view's
-/// front, the count of submits, whether nothing after that command's submit was refused, and what wakes the
-/// other nodes.
+/// Contracts see the prefix of the topic's list after the last command (its own or one that it
+/// learnt of), the view's prefix, the count of submits, whether the view shows that command
+/// (*fresh*), and what wakes the other nodes.
 #[derive(Drop)]
 pub struct NodeDesk<
     'a,
@@ -87,7 +87,7 @@ impl<
     G: Gate,
     W: Wake<N> + Drop,
 > NodeDesk<'a, N, S, K, M, U, R, G, W> {
-    /// A desk that has done no command.
+    /// Makes a desk that has carried out no command.
     pub fn new(
         rt: &'a R,
         pen: &'a Mutex<Pen<N, S, K, R>>,
@@ -115,14 +115,16 @@ impl<
         }
     }
 
-    /// The topic's front of the last command, or a longer one that it learnt of.
+    /// Returns the prefix of the topic's list after the last command, or a longer one that it
+    /// learnt of; `None` before the first.
     pub fn seen(&self) -> Option<&Seen<Item, Shared, N>>
         ensures { option_map (λ s. s.now) result ≡ self.now.seen }
     {
         self.seen.as_ref()
     }
 
-    /// Whether nothing after the submit that gave this front was refused.
+    /// Returns whether the view shows what this prefix of the topic's list holds. It doesn't if
+    /// memory was refused to the follower or the view after the command.
     pub fn fresh(&self) -> bool
         ensures fresh { result ≡ self.now.fresh }
         ensures shown { result ≡ true → IsFresh N.first (front_of self.now.seen) self.now.view }
@@ -130,7 +132,7 @@ impl<
         self.fresh
     }
 
-    /// How many submits its pass was lent to.
+    /// Returns how many commands its pass was used for, refused ones too; up to `u64::MAX`.
     pub fn submits(&self) -> u64
         ensures { result ≡ self.now.submits }
     {
@@ -212,7 +214,7 @@ impl<
     }
 }
 
-/// Whether a front goes beyond the one that is known.
+/// Returns whether a prefix goes beyond the known one.
 fn is_news<N: FeedName<Item, Shared>>(
     known: &Option<Seen<Item, Shared, N>>,
     told: &Seen<Item, Shared, N>,

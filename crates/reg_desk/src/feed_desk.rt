@@ -1,4 +1,4 @@
-// A desk over a feed, of which each worker has one for all its connections.
+// A desk (request handler) over a feed. Each worker has one for all its connections.
 ghost use Rattle.std.specs.Prelude.{◌≡◌};
 
 use crate::commander::Commander;
@@ -11,10 +11,10 @@ use reg_node::{ShowsRegistry, View};
 use std::alloc::{AllocError, Global};
 use std::marker::Model;
 
-/// A desk that answers queries from what a feed shows, and has commands carried out. The front that it has seen then is what the next
-/// answers stand on, at least.
+/// A request handler that answers queries from what a feed shows and passes commands to its
+/// commander. Each answer comes from a list that extends what earlier answers and commands saw.
 ///
-/// Contracts see the front of the feed's list that was seen or told of, and the commander.
+/// Contracts see the prefix of the feed's list that was seen or told of, and the commander.
 #[derive(Drop)]
 pub struct FeedDesk<
     T: Drop,
@@ -48,7 +48,7 @@ impl<
     S: Copies<T, V, N>,
     C: Commander<T, V, N> + Drop,
 > FeedDesk<T, V, N, S, C> {
-    /// A desk that has done no command.
+    /// Makes a desk that has carried out no command.
     pub fn new(commander: C, view: View<T, V, N, S>) -> FeedDesk<T, V, N, S, C>
         ensures { result ≡ record { front = view; commander = commander } }
     {
@@ -69,7 +69,7 @@ impl<
 
     ghost commands = { CommandsFeed C.carries };
 
-    // A second look begins with all that the first one saw.
+    // The second look extends all that the first one saw.
     fn ask(&mut self, alloc: Global, query: &Query) -> Result<Answer, AllocError> {
         let answer = self.view.lookup(alloc, query)?;
         if self.commander.has_news(query, &answer) {

@@ -1,4 +1,4 @@
-// Desks that do no commands.
+// Desks that carry out no commands.
 ghost use Rattle.std.specs.Prelude.{◌≡◌};
 
 use crate::commander::Commander;
@@ -8,7 +8,8 @@ use reg_leader::{Command, Reply};
 use reg_lookup::{Answer, Query};
 use reg_node::{ShowsRegistry, View};
 
-/// Refuses each command, which has to go to the log's writer.
+/// A commander that refuses each command, since it has to go to the writer of the log
+/// (`Refusal::FollowsLog`).
 #[derive(Clone, Copy)]
 pub struct Nobody;
 

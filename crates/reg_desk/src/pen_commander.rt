@@ -15,7 +15,8 @@ use reg_topic::Item;
 use std::marker::Model;
 use std::sync::{Mutex, Wait};
 
-/// Submits commands to the pen of a log, which other desks submit to as well. A registration is judged by what the view shows before.
+/// Submits commands to the pen of a log, which other desks share. A registration is judged over
+/// what the view shows before the pen is taken.
 ///
 /// Contracts see how many commands it has submitted.
 #[derive(Drop)]
@@ -51,7 +52,7 @@ impl<
     K: Keep + Drop,
     R: Wait + Drop,
 > PenCommander<'a, N, S, K, R> {
-    /// What submits to that pen by that pass, and judges registrations by that judge.
+    /// Makes a commander that submits to `pen` by `pass`, and judges registrations by `judge`.
     pub fn new(
         rt: &'a R,
         pen: &'a Mutex<Pen<N, S, K, R>>,
@@ -94,7 +95,7 @@ impl<
         reply
     }
 
-    // What is written is shown before it is replied to, and nobody else writes.
+    // The view shows a write before its reply is given, and nobody else writes to this log.
     fn has_news(&self, _query: &Query, _answer: &Answer) -> bool {
         false
     }

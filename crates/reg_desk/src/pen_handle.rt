@@ -1,4 +1,4 @@
-// The pen of a log, as one of those sees it who submit to it.
+// One of several users of a pen.
 ghost use Rattle.std.specs.Prelude.{◌≡◌};
 ghost use mathlib.Core.List.{IsPrefix};
 ghost use Rattle.reg_pen.specs.Pen.{counted};
@@ -18,7 +18,8 @@ use reg_topic::Item;
 use std::marker::Model;
 use std::sync::{Mutex, Wait};
 
-/// Submits to the pen of a log, which others submit to as well. Contracts see how many commands it has submitted.
+/// Submits to the pen of a log, which others share. Contracts see how many commands it has
+/// submitted.
 #[derive(Drop)]
 pub(crate) struct PenHandle<
     'a,
@@ -53,7 +54,7 @@ impl<
     K: Keep + Drop,
     R: Wait + Drop,
 > PenHandle<'a, N, S, K, R> {
-    /// What submits to that pen by that pass.
+    /// Makes a handle that submits to `pen` by `pass`.
     pub(crate) fn new(
         rt: &'a R,
         pen: &'a Mutex<Pen<N, S, K, R>>,
@@ -64,14 +65,15 @@ impl<
         PenHandle { rt, pen, pass }
     }
 
-    /// How many commands it has submitted, up to `u64::MAX`.
+    /// Returns how many commands it has submitted, up to `u64::MAX`.
     pub(crate) fn submits(&self) -> u64
         ensures { result ≡ self.now }
     {
         self.pass.submits()
     }
 
-    /// Submits the command, once. The front is the longer one of that before and the one told.
+    /// Submits the command, once. The prefix in the result is the longer one of `before` and the
+    /// one that the pen gave.
     #[tactic(auto, using(crate::proofs::Told::is_next, crate::proofs::Told::is_written, crate::proofs::Told::submitted_told))]
     pub(crate) fn submit_from(
         &mut self,
@@ -136,7 +138,7 @@ impl<
     }
 }
 
-/// The longer one of two fronts.
+/// Returns the longer one of two prefixes.
 #[tactic(auto, using(crate::proofs::Told::same_front))]
 fn later<N: FeedName<Item, Shared>>(
     before: &Option<Seen<Item, Shared, N>>,

@@ -1,4 +1,4 @@
-// A registration's judgement, which is made before the pen is taken.
+// The judgement of a registration, made before the pen is taken.
 ghost use mathlib.Core.List.{IsPrefix};
 
 use reg_feed::{Copies, FeedName};
@@ -16,12 +16,12 @@ pub struct Ruling {
 }
 
 impl Ruling {
-    /// The judgement of a registration against what the view shows. `None` for each other command, and
-    /// where there is none.
+    /// Judges a registration over what the view shows. `None` for every other command, and if there
+    /// is no judgement (a text isn't a schema, memory is refused, or the writer is gone).
     ///
-    /// Each registration is judged, also where its text is short: how long its check takes depends on what is
-    /// live. Under a level that looks at one version this costs half as much again as a decision alone, but
-    /// none of it while the pen is held.
+    /// Each registration is judged, even if its text is short: how long a check takes depends on
+    /// the live versions. Under a level that looks at one version, judging first costs half as much
+    /// again as a decision alone, but none of it while the pen is held.
     pub fn of<T: Drop, V: ShowsRegistry<T> + Drop, N: FeedName<T, V>, S: Copies<T, V, N>>(
         view: &mut View<T, V, N, S>,
         judge: &mut Judge,
@@ -36,7 +36,7 @@ impl Ruling {
         Ruling::on(case, judge)
     }
 
-    /// The judgement of that case.
+    /// Judges a case; `None` if a text isn't a schema, or memory is refused.
     pub fn on(case: Case, judge: &mut Judge) -> Option<Ruling> {
         let mut case = case;
         match case.judged(judge) {
@@ -46,15 +46,15 @@ impl Ruling {
     }
 }
 
-/// Reads the schema that a command has, if it wasn't read, so that this isn't done while the pen is held.
+/// Reads the command's schema if it wasn't read yet, so that the pen isn't held meanwhile.
 fn read_ahead(command: &Command) {
     if let Some(text) = command.schema() {
         let _reading = text.reading();
     }
 }
 
-/// The case over the registry, where it isn't the same any more. Where memory is refused it passes for
-/// the same one.
+/// Makes the case over this registry if it differs from the given one; `None` if it doesn't. If
+/// memory is refused, the case counts as unchanged.
 pub fn overtaken(case: Case, registry: &Registry) -> Option<Case> {
     match case.stands(registry) {
         Ok(false) => case.anew(registry).ok(),

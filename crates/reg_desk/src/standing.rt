@@ -1,4 +1,4 @@
-// What a desk's answers stand on, which goes with a connection to the next desk.
+// What a desk's answers extend; it goes with a connection to the next desk.
 ghost use Rattle.std.specs.Prelude.{◌≡◌, true, option_map};
 ghost use Rattle.reg_desk.specs.Desk.{IsFresh, front_of};
 
@@ -8,8 +8,8 @@ use reg_shared::Shared;
 use reg_topic::Item;
 use std::marker::Model;
 
-/// What a desk's answers stand on: a front of the topic's list, where there was a command, and one of its
-/// node's list. Where it is fresh the node's front shows the topic's.
+/// What a desk's answers extend: a prefix of the topic's list if there was a command, and a prefix
+/// of its node's list. If it is *fresh*, the node's prefix shows the topic's.
 #[derive(Drop)]
 pub struct Standing<N: FeedName<Item, Shared>, M: FeedName<Draw, Taken>> {
     topic: Option<Seen<Item, Shared, N>>,
@@ -29,7 +29,7 @@ impl<N: FeedName<Item, Shared>, M: FeedName<Draw, Taken>> Model for Standing<N, 
 }
 
 impl<N: FeedName<Item, Shared>, M: FeedName<Draw, Taken>> Standing<N, M> {
-    /// What stands on these fronts.
+    /// Makes a standing of these prefixes.
     pub fn of(
         topic: Option<Seen<Item, Shared, N>>,
         node: Seen<Draw, Taken, M>,
@@ -41,7 +41,7 @@ impl<N: FeedName<Item, Shared>, M: FeedName<Draw, Taken>> Standing<N, M> {
         Standing { topic, node, fresh }
     }
 
-    /// The front of the topic's list, where there was a command.
+    /// Returns the prefix of the topic's list; `None` if there was no command.
     pub fn topic(&self) -> Option<&Seen<Item, Shared, N>>
         ensures front { option_map (λ s. s.now) result ≡ self.now.topic }
         ensures shown { self.now.fresh ≡ true → IsFresh N.first (front_of self.now.topic) self.now.node }
@@ -49,14 +49,14 @@ impl<N: FeedName<Item, Shared>, M: FeedName<Draw, Taken>> Standing<N, M> {
         self.topic.as_ref()
     }
 
-    /// The front of the node's list.
+    /// Returns the prefix of the node's list.
     pub fn node(&self) -> &Seen<Draw, Taken, M>
         ensures { result.now ≡ self.now.node }
     {
         &self.node
     }
 
-    /// Whether the node's front shows the topic's.
+    /// Returns whether the node's prefix shows the topic's.
     pub fn fresh(&self) -> bool
         ensures { result ≡ self.now.fresh }
     {

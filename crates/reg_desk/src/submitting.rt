@@ -1,4 +1,4 @@
-// A command at a pen that others use too.
+// Commands at a shared pen.
 ghost use Rattle.std.specs.Prelude.{◌≡◌, IfOk, OnErr};
 
 use crate::ruling::Ruling;
@@ -10,22 +10,23 @@ use reg_node::Case;
 use reg_shared::Shared;
 use reg_topic::Item;
 
-/// How often a registration is judged again before it takes the pen for good.
+/// How often a registration is judged again before its command takes the pen for good.
 const JUDGED_AGAIN: u32 = 3;
 
-/// The way to a pen that others use too, each for one command at a time.
+/// The way to a shared pen; each user takes it for one command at a time.
 pub trait PenAccess<N: FeedName<Item, Shared>> {
-    /// What comes of a command.
+    /// The result of a command.
     type Done: Drop;
 
     ghost use Rattle.std.specs.Prelude.{List, Option};
     ghost use Rattle.reg_topic.specs.declared.published.Item.{Item};
     ghost use Rattle.reg_leader.specs.declared.command.Command.{Command};
 
-    // Its state before, the front that whoever asks has seen, the command, what came of it, its state after.
+    // The state before, the prefix that the caller has seen, the command, its result, the state
+    // after.
     ghost does: { Self → Option (List Item) → Command → Self.Done → Self → Type 0 };
 
-    /// Takes the pen for one command, by its judgement, if there is one.
+    /// Takes the pen for one command. `judged` is the command's judgement, if there is one.
     fn submit(
         &mut self,
         since: &Option<Seen<Item, Shared, N>>,
@@ -34,7 +35,8 @@ pub trait PenAccess<N: FeedName<Item, Shared>> {
     ) -> Self::Done
         ensures { does self.old since.now command.now result self.new };
 
-    /// Takes the pen for one registration, if its judgement still fits; else does nothing, and gives what is to be judged by now.
+    /// Takes the pen for one registration if its judgement still fits. If not, does nothing and
+    /// returns the case that has to be judged now.
     fn submit_if_fits(
         &mut self,
         since: &Option<Seen<Item, Shared, N>>,
@@ -45,8 +47,9 @@ pub trait PenAccess<N: FeedName<Item, Shared>> {
         ensures same { OnErr result (self.new ≡ self.old) };
 }
 
-/// Takes the pen for one command, once. A registration whose judgement doesn't fit any more is judged again without the pen, three times at
-/// most.
+/// Takes the pen for one command, once. A registration whose judgement doesn't fit any more is
+/// judged again without the pen, three times at most; then it takes the pen with the last
+/// judgement.
 pub fn submit_ruled<N: FeedName<Item, Shared>, A: PenAccess<N>>(
     pen: &mut A,
     since: &Option<Seen<Item, Shared, N>>,

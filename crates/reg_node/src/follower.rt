@@ -1,4 +1,4 @@
-// What takes from the topic, and publishes to a node's views.
+// The follower of a node: it reads the topic and publishes to the node's views.
 ghost use Rattle.std.specs.Prelude.{◌≡◌, ◌⊎◌, ◌≤◌, ◌++◌, [], IfOk, IfSome, MatchBool, OnErr, OnOk};
 ghost use Rattle.std.specs.FinSet.{empty};
 ghost use mathlib.Core.List.{IsPrefix};
@@ -20,12 +20,13 @@ use std::collections::VecDeque;
 use std::marker::Model;
 use std::sync::Wait;
 
-/// Draws from the topic, and publishes to its node's views. Each draw is a take of one record of the kept
-/// set of a front of the topic's list that it had read, or a rebase on that set, whose floor is another
-/// one then, and these fronts never get shorter.
+/// A replica of the topic on a node: it reads the topic's list and publishes what is new to the
+/// node's views. What it adds to the node's list are *draws*: a take of one kept record, or a
+/// rebase, which replaces the records below a floor. Each draw comes from the kept set of a prefix
+/// of the topic's list, and these prefixes never get shorter.
 ///
-/// Contracts see the front of the topic's list that it saw or learnt, beside the published draws and
-/// the pending ones.
+/// Contracts see the prefix of the topic's list (its *front*) that it saw or learnt of, the
+/// published draws, and the pending ones.
 #[derive(Drop)]
 pub struct Follower<
     N: FeedName<Item, Shared>,
@@ -39,12 +40,12 @@ pub struct Follower<
     out: Box<FeedWriter<Draw, Taken, M, U, R>>,
     // The last of the pending draws, which `out` doesn't have yet.
     rest: VecDeque<Draw>,
-    // The topic's next offset at the last pull. All that was taken is below it, and each last record
-    // below it was taken, or was compacted away.
+    // The topic's next offset at the last pull. All taken records are below it, and each last
+    // record below it was taken or was compacted away.
     upto: u64,
     // The floor, with the pending draws.
     floor: u64,
-    // Whether the copy that isn't shown lacks what was published last.
+    // Whether the hidden copy of the value lacks what was published last.
     lags: bool,
 }
 
@@ -78,8 +79,8 @@ impl<
     U: Copies<Draw, Taken, M>,
     R: Wait + Drop,
 > Follower<N, S, M, U, R> {
-    /// One that begins with nothing: it takes from that reader of the topic, and publishes by that
-    /// writer.
+    /// Makes a follower that has taken nothing. It reads the topic by `topic` and publishes by
+    /// `out`.
     pub fn new(
         topic: FeedReader<Item, Shared, N, S>,
         out: Box<FeedWriter<Draw, Taken, M, U, R>>,
@@ -99,7 +100,7 @@ impl<
         }
     }
 
-    /// The front of the topic's list that it saw or learnt.
+    /// Returns the prefix of the topic's list that it saw or learnt of.
     pub fn topic_seen(&self) -> &Seen<Item, Shared, N>
         ensures front { result.now ≡ self.now.0 }
         ensures drawn { AreDrawnFrom N.first (self.now.1.0 ++ self.now.1.1) self.now.0 }
@@ -108,7 +109,7 @@ impl<
         self.topic.seen()
     }
 
-    /// The front of the topic's list becomes the longer of the two.
+    /// Moves to the longer of its own prefix of the topic's list and the told one.
     pub fn learn(&mut self, seen: &Seen<Item, Shared, N>)
         ensures one { (self.new.0 ≡ self.old.0) ⊎ (self.new.0 ≡ seen.now) }
         ensures this { IsPrefix self.old.0 self.new.0 }
@@ -119,10 +120,11 @@ impl<
         self.topic.learn(seen);
     }
 
-    /// Draws what is new in the kept set of some published list of the topic that begins with all
-    /// that was seen or learnt, and says whether anything was: where the floors differ, it is rebased on
-    /// that set first. All that is then taken, once it is published, is a compaction of that list's log.
-    /// The only error is out of memory, or that the pen is gone.
+    /// Draws what is new in the kept set of a published list of the topic that extends all that was
+    /// seen or learnt of. Returns whether anything was new. If the floors differ, it rebases on
+    /// that kept set first. Once published, all taken records are a compaction of that list's log.
+    /// The only error is out of memory; it also comes if the topic's writer is gone. No draw is
+    /// added then.
     pub fn pull(&mut self) -> Result<bool, AllocError>
         ensures longer { IsPrefix self.old.0 self.new.0 }
         ensures published { self.new.1.0 ≡ self.old.1.0 }
@@ -146,8 +148,8 @@ impl<
         Ok(true)
     }
 
-    /// Publishes what was taken, and gives the node's whole list. The only error is out of memory;
-    /// all is then as it was.
+    /// Publishes the pending draws and returns the node's whole list. The only error is out of
+    /// memory; nothing has changed then.
     pub fn publish(&mut self) -> Result<Seen<Draw, Taken, M>, AllocError>
         ensures published { OnOk result (self.new ≡ (self.old.0, (self.old.1.0 ++ self.old.1.1, []))) }
         ensures drawn { OnOk result (AreDrawnFrom N.first self.new.1.0 self.new.0) }
@@ -162,9 +164,10 @@ impl<
         Ok(self.out.tell())
     }
 
-    /// Brings the copy that isn't shown up to what was published last, so that the next publish takes in only what is
-    /// new: else it takes in that of the one before too, after a start all that is kept. Nothing is published, and
-    /// where memory is refused, it is left to the next publish. It may wait for readers.
+    /// Brings the hidden copy of the value up to date, so that the next publish applies only what
+    /// is new. Without this call the next publish also applies the last one's draws; after a start
+    /// these are all kept records. Publishes nothing. If memory is refused, the work is left to the
+    /// next publish. It may block on readers.
     pub fn catch_up_unshown(&mut self)
         ensures { self.new ≡ self.old }
     {
@@ -173,7 +176,8 @@ impl<
         }
     }
 
-    /// Whoever saw or learnt of a list of this node, as its views do, saw what it published, or a beginning of it.
+    /// States that every list that anybody saw or learnt of on this node is a prefix of what the
+    /// follower has published.
     pub fn covers(&mut self, seen: &Seen<Draw, Taken, M>)
         ensures begins { IsPrefix seen.now self.old.1.0 }
         ensures same { self.new ≡ self.old }
@@ -181,7 +185,7 @@ impl<
         self.out.covers(seen);
     }
 
-    /// A view of the node. It may be refused at any call.
+    /// Makes a view of the node. It is refused if no place for a reader is left.
     pub fn view(&mut self) -> Result<NodeView<M, U>, NoPlace>
         ensures new { IfOk result (λ v. v ≡ []) }
         ensures same { self.new ≡ self.old }
@@ -192,7 +196,8 @@ impl<
     }
 }
 
-/// Adds what is new behind all draws of a node's list. The only error is out of memory; none is added then.
+/// Adds what is new behind all draws of a node's list. The only error is out of memory; none is
+/// added then.
 fn add_news<M: FeedName<Draw, Taken>, U: Copies<Draw, Taken, M>, R: Wait + Drop>(
     out: &mut Box<FeedWriter<Draw, Taken, M, U, R>>,
     rest: &mut VecDeque<Draw>,
@@ -223,8 +228,8 @@ fn add_news<M: FeedName<Draw, Taken>, U: Copies<Draw, Taken, M>, R: Wait + Drop>
     append_whole(out, rest, draws, Taken::of(alloc, registry))
 }
 
-/// Appends all draws to a node's list, with what the whole list then folds to. The only error is out of memory;
-/// those that weren't appended before then stay where they are.
+/// Appends all draws to a node's list, with the value that the whole list then folds to. The only
+/// error is out of memory; draws that weren't appended stay where they are.
 fn append_whole<M: FeedName<Draw, Taken>, U: Copies<Draw, Taken, M>, R: Wait + Drop>(
     out: &mut FeedWriter<Draw, Taken, M, U, R>,
     rest: &mut VecDeque<Draw>,
@@ -242,8 +247,8 @@ fn append_whole<M: FeedName<Draw, Taken>, U: Copies<Draw, Taken, M>, R: Wait + D
     out.append_all(draws, whole)
 }
 
-/// Appends the draws to a node's list. The only error is out of memory; those that weren't appended
-/// then stay where they are.
+/// Appends the draws to a node's list. The only error is out of memory; draws that weren't appended
+/// stay where they are.
 fn append_all<M: FeedName<Draw, Taken>, U: Copies<Draw, Taken, M>, R: Wait + Drop>(
     out: &mut FeedWriter<Draw, Taken, M, U, R>,
     draws: &mut VecDeque<Draw>,

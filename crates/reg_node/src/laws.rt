@@ -1,5 +1,4 @@
-// The laws of what nodes take. What is proved here costs nothing at run time: a function that needs a
-// law calls it.
+// The laws of what nodes take. They cost nothing at run time: a function that needs a law calls it.
 ghost use Rattle.reg_node.specs.Caught.{CaughtStays, NewsAreWhole, NewsCatchUp};
 ghost use Rattle.reg_node.specs.Takes.{DrawsFoldToLastRecords};
 
@@ -10,7 +9,7 @@ use reg_set::{
 use reg_shared::later_records_are_news;
 use reg_topic::{floors_stay_below, kept_sets_are_compactions};
 
-/// What a node's list folds to are the last records of all that was taken, and rebased.
+/// States that a node's list folds to the last records of all that was taken and rebased.
 pub fn draws_fold_to_last_records()
     ensures { DrawsFoldToLastRecords }
 {
@@ -19,8 +18,9 @@ pub fn draws_fold_to_last_records()
     rebasing_keeps_lasts();
 }
 
-/// What a follower took stays right as the topic's list goes on, and what is kept from its offset on
-/// is all that it lacks. At its beginning and at a rebase it has the last records of all that is kept.
+/// States that what a follower took stays right as the topic's list grows, and that the kept
+/// records from its offset on are all that it lacks. At the start and at a rebase the topic's own
+/// registry has the last records of all that is kept.
 pub(crate) fn followers_catch_up()
     ensures stays { CaughtStays }
     ensures news { NewsCatchUp }

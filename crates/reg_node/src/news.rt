@@ -1,4 +1,4 @@
-// What is new in the kept set of some published list of the topic.
+// What is new in the kept set of a published list of the topic.
 ghost use Rattle.std.specs.Prelude.{◌≡◌, ◌≢◌, ◌+◌, ◌≤◌, ◌++◌, ℕ, [], None, IfOk, MatchBool, OnErr, OnOk, length};
 ghost use Rattle.std.specs.VecDeque.{deque_capacity, deque_len};
 ghost use mathlib.Core.List.{IsPrefix};
@@ -16,9 +16,9 @@ use reg_topic::Item;
 use std::alloc::AllocError;
 use std::collections::VecDeque;
 
-/// What is to be drawn: the kept records below the kept floor, for a rebase, where the floors differ, and
-/// those that are new, with the next offset and that floor beside them. For a node that took nothing, and for
-/// a rebase, there is the registry over all that is kept too.
+/// What a follower has to draw: the records from its offset on, with the next offset and the floor
+/// of the kept set. If the floors differ, also the kept records below the floor, for a rebase. For
+/// a follower that took nothing, and for a rebase, also the registry over all kept records.
 #[derive(Drop)]
 pub(crate) struct News {
     pub(crate) below: Option<Listed<Record>>,
@@ -29,7 +29,7 @@ pub(crate) struct News {
 }
 
 impl News {
-    /// Whether nothing is to be drawn.
+    /// Returns whether nothing has to be drawn.
     #[tactic(auto, using(crate::proofs::Drawn::draws_none))]
     pub(crate) fn is_nothing(&self) -> bool
         ensures { MatchBool result ((self.now.below ≡ None) × (self.now.records.items ≡ []))
@@ -42,8 +42,8 @@ impl News {
     }
 }
 
-/// What is new for a node that has that floor, from an offset on. The only error is out of memory, or
-/// that the pen is gone.
+/// Reads what is new for a node that has this floor, from the offset `from` on. The only error is
+/// out of memory; it also comes if the topic's writer is gone.
 pub(crate) fn read_news<N: FeedName<Item, Shared>, S: Copies<Item, Shared, N>>(
     topic: &mut FeedReader<Item, Shared, N, S>,
     from: u64,
@@ -69,7 +69,7 @@ pub(crate) fn read_news<N: FeedName<Item, Shared>, S: Copies<Item, Shared, N>>(
     }
 }
 
-/// What is new from an offset on. The only error is out of memory.
+/// Copies what is new from the offset `from` on. The only error is out of memory.
 fn copy_news(shared: &Shared, from: u64, floor: u64) -> Result<News, AllocError>
     ensures { IfOk result (λ news. IsNews shared.now floor from news.below news.records.items
         × (news.next ≡ shared.now.next) × (news.floor ≡ shared.now.kept.floor)
@@ -85,8 +85,8 @@ fn copy_news(shared: &Shared, from: u64, floor: u64) -> Result<News, AllocError>
     })
 }
 
-/// The registry over all that is kept, where nothing was taken, or the floors differ. The only error is out of
-/// memory.
+/// Copies the registry over all kept records if nothing was taken yet or the floors differ; else
+/// `None`. The only error is out of memory.
 fn copy_whole(shared: &Shared, from: u64, floor: u64) -> Result<Option<Registry>, AllocError>
     ensures { IfOk result (λ whole. IsWhole shared.now.kept floor from whole) }
 {
@@ -96,7 +96,8 @@ fn copy_whole(shared: &Shared, from: u64, floor: u64) -> Result<Option<Registry>
     Ok(Some(shared.registry().clone()?))
 }
 
-/// The kept records below the kept floor, if that isn't the given one. The only error is out of memory.
+/// Copies the kept records below the kept set's floor if that isn't the given one; else `None`. The
+/// only error is out of memory.
 fn copy_below(shared: &Shared, floor: u64) -> Result<Option<Listed<Record>>, AllocError>
     ensures { IfOk result (λ below. IsBasis shared.now.kept floor below) }
 {
@@ -107,7 +108,7 @@ fn copy_below(shared: &Shared, floor: u64) -> Result<Option<Listed<Record>>, All
     Ok(Some(Listed::from(below)))
 }
 
-/// Adds a rebase, if there are records for one, and a take of each record behind them, or nothing. The
+/// Adds a rebase if there are records for one, and a take of each record behind it, or nothing. The
 /// only error is out of memory.
 pub(crate) fn add_draws(
     draws: &mut VecDeque<Draw>,
@@ -127,7 +128,7 @@ pub(crate) fn add_draws(
     Ok(())
 }
 
-/// Adds a take of each record behind them, where there is room.
+/// Adds a take of each record. There is room for them.
 fn push_takes(draws: &mut VecDeque<Draw>, read: u64, records: Vec<Record>)
     requires { deque_len draws.old + length records.items ≤ deque_capacity draws.old }
     ensures { draws.new.items ≡ draws.old.items ++ takes_of read records.items }

@@ -16,17 +16,19 @@ use reg_view::ShowsRegistry;
 use std::alloc::{AllocError, Global};
 use std::marker::{Brand, Model};
 
-/// A kept record that a node took, with the number of the topic's items that it had read.
+/// A kept record that a node took.
 #[derive(Debug, Drop, Clone)]
 pub struct Take {
+    /// How many of the topic's items the node had read.
     pub read: u64,
+    /// The record.
     pub kept: Record,
 }
 
-/// A node's records below a floor give way to the kept ones, with the number of the topic's items that it
-/// had read.
+/// A replacement of a node's records below a floor by the kept ones.
 #[derive(Debug, Drop, Clone)]
 pub struct Rebase {
+    /// How many of the topic's items the node had read.
     pub read: u64,
     /// The kept set's floor.
     pub floor: u64,
@@ -34,17 +36,18 @@ pub struct Rebase {
     pub below: Listed<Record>,
 }
 
-/// What a node drew from the topic.
+/// One thing that a node drew from the topic.
 #[derive(Debug, Drop, Clone)]
 pub enum Draw {
     Take(Take),
     Rebase(Rebase),
 }
 
-/// What lookups read of all that a node took: the last records. Contracts see these.
+/// The value that a node's draws fold to: the last records of all that it took, with the registry
+/// over them. Contracts see these records.
 #[derive(Drop)]
 pub struct Taken {
-    // Held, since taking in a draw is given none.
+    // Stored, since `take_item` gets no allocator.
     alloc: Global,
     registry: Registry,
 }
@@ -62,7 +65,7 @@ impl Model for Taken {
 }
 
 impl Taken {
-    /// No record.
+    /// Makes the value of a node that took nothing.
     pub fn new(alloc: Global) -> Taken
         ensures { result ≡ empty }
     {
@@ -72,22 +75,22 @@ impl Taken {
         }
     }
 
-    /// All that the registry holds.
+    /// Makes the value of a registry's records.
     pub(crate) fn of(alloc: Global, registry: Registry) -> Taken
         ensures { result ≡ registry }
     {
         Taken { alloc, registry }
     }
 
-    /// The registry over the records.
+    /// Returns the registry over the records.
     pub(crate) fn registry(&self) -> &Registry
         ensures { result.now ≡ self.now }
     {
         &self.registry
     }
 
-    /// Puts the records that a rebase brings in the place of those below its floor. The only error is
-    /// out of memory; all is then as it was.
+    /// Replaces the records below the rebase's floor by those that it brings. The only error is out
+    /// of memory; nothing has changed then.
     fn rebase(&mut self, rebase: &Rebase) -> Result<(), AllocError>
         ensures rebased { OnOk result (self.new ≡ last_records (rebased self.old (base_in rebase.now))) }
         ensures refused { OnErr result (self.new ≡ self.old) }
@@ -103,7 +106,7 @@ impl Taken {
     }
 }
 
-/// The last records of a registry, as a set. The only error is out of memory.
+/// Makes the set of a registry's last records. The only error is out of memory.
 fn set_of(alloc: Global, registry: &Registry) -> Result<RecordSet, AllocError>
     ensures { IfOk result (λ set. set ≡ registry.now) }
 {
@@ -135,7 +138,7 @@ impl Fold<Draw> for Taken {
     }
 }
 
-/// What a node answers queries by.
+/// A view of a node: a snapshot reader that answers its queries.
 pub type NodeView<M, U> = reg_view::View<Draw, Taken, M, U>;
 
 /// A node's list begins with nothing, and comes to all that was taken.
@@ -163,7 +166,7 @@ impl ShowsRegistry<Draw> for Taken {
     }
 }
 
-/// A node's feed. A program that makes one picks both at its call.
+/// A node's feed. A program that makes one picks its book and its first value at the call.
 impl FeedName<Draw, Taken> for Brand {
     ghost use Rattle.std.specs.FinSet.{empty};
 
