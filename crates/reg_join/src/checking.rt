@@ -1,4 +1,4 @@
-// A check that is lent through a pen.
+// A check of the chain through a pen.
 ghost use Rattle.std.specs.Prelude.{◌≡◌};
 ghost use Rattle.reg_join.specs.Joined.{IsJoined, batches_of};
 ghost use Rattle.reg_join.specs.Joining.{Checks, IsNotAsked, KeepsTaken};
@@ -13,7 +13,7 @@ use reg_shared::Shared;
 use reg_topic::Item;
 use std::sync::Wait;
 
-/// Asks the chain whether something stands behind all that was told, while nobody else has the pen. Nothing of the list changes.
+/// Asks the chain whether it has batches beyond all that was told. The pen's list doesn't change.
 pub fn check_chain<
     N: FeedName<Item, Shared>,
     S: Copies<Item, Shared, N>,
@@ -32,7 +32,7 @@ pub fn check_chain<
     checking.answer
 }
 
-/// What a keep's chain answers to a check.
+/// The chain's answer to a check.
 #[derive(Drop)]
 struct Checking {
     answer: ChainAnswer,

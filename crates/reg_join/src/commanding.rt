@@ -24,48 +24,53 @@ use std::sync::Wait;
 /// How often a command is decided at most.
 const TRIES: u32 = 64;
 
-/// How many batches of others are taken in at most before a command is decided. Where more are told, it counts as overtaken once.
+/// How many batches of others are taken in at most before a command is decided. If there are more,
+/// the command counts as overtaken once.
 const TAKEN_AT_ONCE: u32 = 1_024;
 
-/// What a command comes to.
+/// The outcome of a command.
 #[derive(Debug, Drop)]
 pub enum JoinOutcome {
-    /// The reply of its step from all that stood in the chain. What it wrote stands right behind that, and where it wrote nothing, the chain
-    /// said so when it was asked after it.
+    /// The reply to the command, decided on all that the chain had. What it wrote is right behind
+    /// that; if it wrote nothing, the chain was asked and had nothing more.
     Replied(Reply),
-    /// It wrote a batch that begins at this offset, which isn't published yet: it stands and memory was refused, or whether it stands can't
-    /// be known now. If it does, it is told like anybody's.
+    /// The command wrote a batch that begins at this offset and isn't published yet: the chain has
+    /// it and memory was refused, or it can't be known now whether the chain has it. If it does, it
+    /// will be told like anybody's batch.
     Unsettled(u64),
-    /// A registration of a schema that is live here with this id. The chain can't be reached, so this may be ahead of what wasn't told; the
-    /// id names that schema for good.
+    /// A registration of a schema that is live here with this id. The chain can't be reached, so
+    /// writes that weren't told may come before this answer; the id names this schema for good.
     Live(u32),
-    /// Memory was refused, and nothing of it was kept.
+    /// Memory was refused, and no part of the command's batch is kept.
     NoMemory,
-    /// What others wrote came first each time.
+    /// Batches of others came first each time.
     Overtaken,
-    /// The store declined its batch, or can't be reached.
+    /// The store declined the batch, or can't be reached.
     Declined,
-    /// What was told is no command's, so nothing is taken any more, for good.
+    /// The chain told a batch that no command writes, so nothing is taken any more, for good.
     Stopped,
 }
 
-/// What a command came to, with the front of the list that shows it.
+/// The outcome of a command, with the prefix of the list that shows it.
 #[derive(Drop)]
 pub struct JoinSubmitted<N: FeedName<Item, Shared>> {
     pub outcome: JoinOutcome,
-    /// The published list, where the command was submitted: with what it wrote, if that is published.
+    /// The published list after the submit, with what the command wrote if that is published;
+    /// `None` if it wasn't submitted.
     pub seen: Option<Seen<Item, Shared, N>>,
 }
 
 /// How long a command is tried.
 pub trait Patience {
-    /// Whether a command that others came before isn't decided once more.
+    /// Returns whether a command that others overtook shall not be decided once more.
     fn is_over(&self) -> bool;
 }
 
-/// Does a command over a chain: all that was told is taken in, then the command is submitted, and where it wrote nothing, a check is made.
-/// Where others came first it is decided anew, 64 times at most and for as long as there is patience, and before each time at most 1,024
-/// of their batches are taken in, so that it ends however much is told. `since` is the caller's last front.
+/// Carries out a command over a chain: takes in all that was told, submits the command, and asks
+/// the chain for a check if the command wrote nothing. If batches of others came first, the command
+/// is decided again, 64 times at most and as long as `patience` lasts. At most 1,024 batches of
+/// others are taken in before each try, so the call ends however much is told. `since` is the
+/// prefix that the caller saw last.
 pub fn submit_joined<
     N: FeedName<Item, Shared>,
     S: Copies<Item, Shared, N>,
@@ -98,7 +103,7 @@ pub fn submit_joined<
     without_front(JoinOutcome::Overtaken)
 }
 
-/// Takes in what was told, and decides the command once; `None` where others came first.
+/// Takes in what was told, and decides the command once; `None` if batches of others came first.
 fn try_once<N: FeedName<Item, Shared>, S: Copies<Item, Shared, N>, C: Chain + Drop, R: Wait + Drop>(
     alloc: Global,
     pen: &mut Pen<N, S, JoinKeep<C>, R>,
@@ -130,7 +135,8 @@ fn without_front<N: FeedName<Item, Shared>>(outcome: JoinOutcome) -> JoinSubmitt
     }
 }
 
-/// Takes in what was told, but no more than so many batches. `Batch` where more may be there.
+/// Takes in what was told, at most 1,024 batches. Returns `Batch` if there may be more. The only
+/// error is out of memory.
 #[tactic(auto, using(crate::proofs::TakingIn::goes_on_itself, crate::proofs::TakingIn::goes_on_then, crate::proofs::Trying::at_end))]
 fn take_all<N: FeedName<Item, Shared>, S: Copies<Item, Shared, N>, C: Chain + Drop, R: Wait + Drop>(
     alloc: Global,
@@ -150,7 +156,8 @@ fn take_all<N: FeedName<Item, Shared>, S: Copies<Item, Shared, N>, C: Chain + Dr
     Ok(TakenIn::Batch)
 }
 
-/// Submits the command, where all is taken that was told; where it wrote nothing, a check is made. `None` where others came first.
+/// Submits the command; all that was told is taken in. If the command wrote nothing, the chain is
+/// asked for a check. `None` if batches of others came first.
 fn submit_once<
     N: FeedName<Item, Shared>,
     S: Copies<Item, Shared, N>,
@@ -181,7 +188,8 @@ fn submit_once<
     }
 }
 
-/// What is told of a submit, by what the chain answered to its batch; where it wrote none, and memory wasn't refused, a check is made.
+/// Returns the outcome of a submit by the chain's answer to its batch. If it wrote none and memory
+/// wasn't refused, the chain is asked for a check.
 fn conclude<N: FeedName<Item, Shared>, S: Copies<Item, Shared, N>, C: Chain + Drop, R: Wait + Drop>(
     pen: &mut Pen<N, S, JoinKeep<C>, R>,
     command: &Command,
@@ -197,7 +205,7 @@ fn conclude<N: FeedName<Item, Shared>, S: Copies<Item, Shared, N>, C: Chain + Dr
     }
 }
 
-/// What is told of a submit that wrote nothing.
+/// Returns the outcome of a submit that wrote nothing.
 fn conclude_alone<
     N: FeedName<Item, Shared>,
     S: Copies<Item, Shared, N>,
@@ -244,7 +252,8 @@ fn check_outcome(answer: ChainAnswer, command: &Command, reply: Reply) -> Option
     }
 }
 
-/// Where a check is declined, a registration of a schema that is live here is told its id.
+/// Returns the outcome if a check is declined: the id, for a registration of a schema that is live
+/// here.
 fn unchecked_outcome(command: &Command, reply: &Reply) -> JoinOutcome
     ensures { result ≡ unchecked_outcome command.now reply.now }
 {
@@ -263,7 +272,7 @@ fn live_outcome(reply: &Reply) -> JoinOutcome
     }
 }
 
-/// A keep forgets what its chain answered last.
+/// Makes a keep forget the chain's last answer.
 #[derive(Drop)]
 struct Forgetting;
 

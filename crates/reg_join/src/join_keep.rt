@@ -13,27 +13,29 @@ use std::mem;
 /// How a keep stands to what its chain told.
 #[derive(Drop)]
 pub enum Stand {
-    /// All that was told is taken: a batch that is lent goes to the chain.
+    /// All that was told is taken: a batch that is lent is appended to the chain.
     Level,
-    /// This batch was told next: it is taken where exactly its records are lent, and any other batch stops the keep.
+    /// The chain told this batch next. Exactly these records are taken if they are lent; any other
+    /// batch stops the keep.
     Due(Listed<Record>),
-    /// What was told next is no command's. Nothing is taken any more.
+    /// The chain told a batch that no command writes. Nothing is taken any more.
     Stopped,
 }
 
-/// A pen's keep over a chain: each batch goes to the chain, and what others wrote is taken as it was told, one batch after the other.
+/// A pen's keep over a chain: own batches are appended to the chain, and batches of others are
+/// taken one by one as they are told.
 #[derive(Drop)]
 pub struct JoinKeep<C: Chain + Drop> {
     pub(crate) chain: C,
     pub(crate) stand: Stand,
-    // What the chain answered to the batch that it was asked for last, unless that was forgotten.
+    // The chain's answer to the last own batch, unless it was forgotten.
     pub(crate) last: Option<ChainAnswer>,
-    // How many of the batches that it was asked for it kept, up to 2^64-1.
+    // How many own batches the chain kept, up to 2^64-1.
     pub(crate) kept: u64,
 }
 
 impl<C: Chain + Drop> JoinKeep<C> {
-    /// A keep over a chain.
+    /// Makes a keep over a chain.
     pub fn new(chain: C) -> JoinKeep<C>
         ensures { result ≡ record { chain = chain; stand = Level; last = None; kept = 0 } }
     {
@@ -45,36 +47,37 @@ impl<C: Chain + Drop> JoinKeep<C> {
         }
     }
 
-    /// How it stands to what was told.
+    /// Returns how the keep stands to what was told.
     pub fn stand(&self) -> &Stand
         ensures { result.now ≡ self.now.stand }
     {
         &self.stand
     }
 
-    /// What the chain answered to the batch that it was asked for last; `None` where it wasn't asked for one since that was forgotten.
+    /// Returns the chain's answer to the last own batch; `None` if there was none since the answer
+    /// was forgotten.
     pub fn last(&self) -> Option<ChainAnswer>
         ensures { result ≡ self.now.last }
     {
         self.last
     }
 
-    /// How many of the batches that the chain was asked for it kept, up to 2^64-1.
+    /// Returns how many own batches the chain kept, up to 2^64-1.
     pub fn kept(&self) -> u64
         ensures { result ≡ self.now.kept }
     {
         self.kept
     }
 
-    /// Forgets what the chain answered last.
+    /// Forgets the chain's last answer.
     pub(crate) fn forget(&mut self)
         ensures { self.new ≡ record self.old { last = None } }
     {
         self.last = None;
     }
 
-    /// Learns of the next batch that others wrote, unless one is due already. It never stops the keep, and a stopped one stays as it is. The
-    /// only error is out of memory.
+    /// Learns of the next batch that others wrote, unless one is due already. Never stops the keep,
+    /// and leaves a stopped one alone. The only error is out of memory.
     pub(crate) fn learn(&mut self) -> Result<(), AllocError>
         ensures taken { KeepsTaken C.told self.old self.new }
         ensures own { IsNotAsked self.old self.new }
@@ -90,8 +93,8 @@ impl<C: Chain + Drop> JoinKeep<C> {
         Ok(())
     }
 
-    /// Asks the chain whether something stands behind all that was told. It isn't asked where a batch is due, or where nothing is taken any
-    /// more.
+    /// Asks the chain whether it has batches beyond all that was told. If a batch is due, or the
+    /// keep has stopped, the answer is known and the chain isn't asked.
     pub fn check(&mut self) -> ChainAnswer
         ensures checks { Checks C.told C.answers self.old result self.new }
         ensures taken { KeepsTaken C.told self.old self.new }
@@ -104,7 +107,7 @@ impl<C: Chain + Drop> JoinKeep<C> {
         }
     }
 
-    /// Takes nothing any more, for good.
+    /// Stops the keep for good: it takes nothing any more.
     pub(crate) fn stop(&mut self)
         ensures taken { KeepsTaken C.told self.old self.new }
         ensures own { IsNotAsked self.old self.new }
@@ -140,14 +143,14 @@ impl<C: Chain + Drop> Keep for JoinKeep<C> {
     }
 }
 
-/// Whether these are the same records in the same order.
+/// Returns whether these are the same records in the same order.
 fn is_same(batch: &[Record], told: &[Record]) -> bool
     ensures { IsTrue result ↔ (batch.now ≡ told.now) }
 {
     batch == told
 }
 
-/// What became of a batch, by the chain's answer.
+/// Returns what became of a batch, by the chain's answer.
 fn kept_of(answer: ChainAnswer) -> Kept
     ensures { result ≡ kept_of answer }
 {
@@ -159,7 +162,7 @@ fn kept_of(answer: ChainAnswer) -> Kept
     }
 }
 
-/// How many own batches the chain kept, after its answer to one more.
+/// Returns how many own batches the chain kept, after its answer to one more.
 fn kept_after(kept: u64, answer: ChainAnswer) -> u64
     ensures { result ≡ kept_after kept answer }
 {

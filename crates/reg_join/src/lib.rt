@@ -1,5 +1,22 @@
-//! A pen over a log that others write too. Its keep asks a chain for each batch; what others wrote is taken only where the same command,
-//! decided here, writes the same records.
+//! A pen (the single writer of its process) over a log that other processes write too.
+//!
+//! The log is a *chain* of batches ([`Chain`]): a process appends a batch only behind all that it
+//! was told, so one of two processes that write at once is told that it was overtaken. It takes in
+//! what the other wrote, decides its command again, and tries again ([`submit_joined`]).
+//!
+//! One idea: a batch of others is never copied blindly. The command that may have written it is
+//! found and decided here, and the batch is taken only if the same records come out. So each
+//! process holds a list that is lawful by its own rules, and a log with anything else stops it
+//! ([`JoinOutcome::Stopped`]).
+//!
+//! This crate has no threads and no transport; the chain may be a store behind an adapter program,
+//! or memory ([`MemoryChain`]).
+//!
+//! [`replies_are_at_their_places`] is the theorem: each reply is a step from exactly what the chain
+//! had. [`lawful_logs_stop_nobody`] says that a lawful log stops no pen. [`submit_joined`] carries
+//! both in its clauses `ends` and `stops`.
+//!
+//! Tests: `test_join`.
 #![tactic(auto)]
 
 mod checking;

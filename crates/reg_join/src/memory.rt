@@ -5,7 +5,7 @@ ghost use Rattle.reg_join.specs.Memory.{is_memory_refusal, is_no_memory};
 use reg_fold::{Refusal, StoreFault};
 use reg_leader::Reply;
 
-/// Whether the reply is that memory was refused.
+/// Returns whether the reply says that memory was refused.
 pub(crate) fn is_no_memory(reply: &Reply) -> bool
     ensures { result ≡ is_no_memory reply.now }
 {

@@ -1,4 +1,4 @@
-// What others wrote is taken in.
+// Taking in what others wrote.
 ghost use Rattle.std.specs.Prelude.{◌≡◌, ◌++◌, [], List, IfOk, OnOk};
 ghost use Rattle.reg_records.specs.declared.record.Record.{Record};
 ghost use Rattle.reg_shared.specs.Held.{base_of};
@@ -20,14 +20,14 @@ use reg_topic::Item;
 use std::alloc::{AllocError, Global};
 use std::sync::Wait;
 
-/// What came of taking in what was told next.
+/// The result of taking in what was told next.
 #[derive(Clone, Copy, Debug, PartialEq, Eq)]
 pub enum TakenIn {
     /// One batch was taken.
     Batch,
     /// All that was told is taken.
     All,
-    /// What was told next is no command's: nothing is taken any more.
+    /// The chain told a batch that no command writes: nothing is taken any more.
     Stopped,
 }
 
@@ -36,16 +36,18 @@ pub enum TakenIn {
 enum Next {
     /// Nothing.
     Nothing,
-    /// A batch that this command wrote, if any did.
+    /// A batch; if any command wrote it, this one did.
     Command(Command),
-    /// A batch that no command wrote, or nothing is taken any more.
+    /// A batch that no command wrote, or the keep has stopped.
     NoCommand,
 }
 
-/// Takes in the next batch that others wrote, if one is told: the command that may have written it is submitted, and the keep takes exactly
-/// that batch. Where the command writes another one, or none, no command wrote the batch that was told, and nothing is taken any more.
+/// Takes in the next batch that others wrote, if one is told: submits the command that may have
+/// written it, and the keep takes exactly that batch. If the command writes another batch or none,
+/// no command wrote the told one, and nothing is taken any more.
 ///
-/// The only error is out of memory; the batch is tried again at the next call, and nothing behind it is taken before.
+/// The only error is out of memory; the next call tries the same batch again, and nothing behind it
+/// is taken before.
 #[tactic(auto, using(crate::proofs::TakingIn::goes_on_then, crate::proofs::TakingIn::takes_after, crate::proofs::TakingIn::tells_taken))]
 pub fn take_in<
     N: FeedName<Item, Shared>,
@@ -73,7 +75,7 @@ pub fn take_in<
     }
 }
 
-/// Publishes what is pending, and learns of what was told next.
+/// Publishes what is pending, and learns of what was told next. The only error is out of memory.
 fn learn_next<
     N: FeedName<Item, Shared>,
     S: Copies<Item, Shared, N>,
@@ -96,7 +98,7 @@ fn learn_next<
     Ok(())
 }
 
-/// What was told next. The only error is out of memory.
+/// Returns the command that may have written what was told next. The only error is out of memory.
 fn next_command<
     N: FeedName<Item, Shared>,
     S: Copies<Item, Shared, N>,
@@ -117,7 +119,8 @@ fn next_command<
     }
 }
 
-/// Submits the command that may have written the batch that is due.
+/// Submits the command that may have written the batch that is due. The only error is out of
+/// memory.
 fn take<N: FeedName<Item, Shared>, S: Copies<Item, Shared, N>, C: Chain + Drop, R: Wait + Drop>(
     pen: &mut Pen<N, S, JoinKeep<C>, R>,
     pass: &mut Pass<N>,
@@ -146,7 +149,7 @@ fn take<N: FeedName<Item, Shared>, S: Copies<Item, Shared, N>, C: Chain + Drop, 
     }
 }
 
-/// Takes nothing any more.
+/// Stops the pen's keep for good.
 fn stop<N: FeedName<Item, Shared>, S: Copies<Item, Shared, N>, C: Chain + Drop, R: Wait + Drop>(
     pen: &mut Pen<N, S, JoinKeep<C>, R>,
 )
@@ -157,7 +160,7 @@ fn stop<N: FeedName<Item, Shared>, S: Copies<Item, Shared, N>, C: Chain + Drop, 
     pen.lend_keep(&mut Stopping);
 }
 
-/// A keep learns of what was told next.
+/// Makes a keep learn of what was told next.
 #[derive(Drop)]
 struct Learning {
     is_refused: bool,
@@ -171,7 +174,7 @@ impl<C: Chain + Drop> WithKeep<JoinKeep<C>> for Learning {
     }
 }
 
-/// A keep is stopped.
+/// Stops a keep.
 #[derive(Drop)]
 struct Stopping;
 

@@ -1,4 +1,4 @@
-// The pen of a log that others write too, as the commander of desks.
+// The pen of a shared log as the commander of desks.
 ghost use Rattle.std.specs.Prelude.{◌≡◌};
 ghost use Rattle.reg_shared.specs.Held.{base_of};
 ghost use Rattle.reg_join_desk.specs.JoinedDesk.{JoinOrders, ShowsTold};
@@ -28,9 +28,11 @@ use std::time::{Clock, Duration};
 /// How long a lookup waits for a check at most, in milliseconds.
 const CHECKED_WITHIN: u64 = 1_000;
 
-/// Does commands at the pen of a log that others write too. A registration is judged by what the view shows; then the command goes to the
-/// pen, which takes in what others wrote; then the view shows what the pen told. Where an id or a version isn't found, others may have
-/// written it, and a check is waited for. A worker that may not wait for the log refuses a command, and waits for no check.
+/// Carries out commands at the pen of a log that other processes write too. A registration is
+/// judged over what the view shows; then the command goes to the pen, which takes in what others
+/// wrote; then the view shows the result. If a lookup finds no such id or version, another process
+/// may have written it, and the lookup waits for a check. If too many workers of the port wait for
+/// the log already, a command is refused and a lookup waits for no check.
 ///
 /// Contracts see nothing of it.
 #[derive(Drop)]
@@ -68,8 +70,8 @@ impl<
     C: Chain + Drop,
     R: Wait + Clock + Drop,
 > JoinCommander<'a, N, S, C, R> {
-    /// What does commands at that pen by that pass, and judges registrations by that judge. `waits` is for all workers of a port; who makes
-    /// shared checks parks on `grown`.
+    /// Makes a commander that submits to `pen` by `pass` and judges registrations by `judge`. All
+    /// workers of a port share `waits`; the thread that makes the shared checks parks on `grown`.
     pub fn new(
         rt: &'a R,
         alloc: Global,
@@ -90,7 +92,8 @@ impl<
         }
     }
 
-    /// Waits for a shared check, if one more worker of the port may wait with a lookup. Says whether one was made.
+    /// Waits for a shared check, if one more worker of the port may wait with a lookup. Returns
+    /// whether a check was made.
     fn wait_for_check(&self) -> bool {
         if !self.waits.enter_lookup() {
             return false;
@@ -101,7 +104,7 @@ impl<
         checked
     }
 
-    /// Does the command at the pen, shows what it told, and gives the reply.
+    /// Carries out the command at the pen, shows the result, and returns the reply.
     #[tactic(auto, using(crate::proofs::Ordered::orders))]
     fn order<U: Copies<Item, Shared, N>>(
         &mut self,
@@ -159,7 +162,7 @@ impl<
     }
 }
 
-/// The view shows the front that a command told, if it told one.
+/// Moves the view to the prefix that a command's submit gave, if it gave one.
 fn show<N: FeedName<Item, Shared>, S: Copies<Item, Shared, N>>(
     view: &mut View<Item, Shared, N, S>,
     told: &Option<Seen<Item, Shared, N>>,

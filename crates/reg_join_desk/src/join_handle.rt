@@ -1,4 +1,4 @@
-// The pen of a log that others write too, as one of those sees it who do commands at it.
+// One of several users of the pen of a shared log.
 ghost use Rattle.std.specs.Prelude.{◌≡◌};
 ghost use mathlib.Core.List.{IsPrefix};
 ghost use Rattle.reg_shared.specs.Held.{base_of};
@@ -21,7 +21,8 @@ use std::marker::Model;
 use std::sync::{Mutex, Wait};
 use std::time::Clock;
 
-/// Does commands at the pen of a log that others write too, each for as long as there is patience. Contracts see nothing of it.
+/// Carries out commands at the pen of a shared log, each as long as its patience lasts. Contracts
+/// see nothing of it.
 #[derive(Drop)]
 pub(crate) struct JoinHandle<
     'a,
@@ -56,7 +57,7 @@ impl<
     C: Chain + Drop,
     R: Wait + Clock + Drop,
 > JoinHandle<'a, N, S, C, R> {
-    /// What does commands at that pen by that pass.
+    /// Makes a handle that submits to `pen` by `pass`.
     pub(crate) fn new(
         rt: &'a R,
         alloc: Global,
@@ -72,7 +73,7 @@ impl<
         }
     }
 
-    /// The next command begins now, and patience with it.
+    /// Starts the patience of the next command.
     pub(crate) fn begin(&mut self) {
         self.patience = TimedPatience::new(self.rt);
     }
@@ -134,7 +135,7 @@ impl<
     }
 }
 
-/// Does the command at a pen whose list begins with what was seen.
+/// Carries out the command. Notes first that the pen's list begins with what the caller has seen.
 fn submit_at<
     N: FeedName<Item, Shared>,
     S: Copies<Item, Shared, N>,
@@ -155,7 +156,7 @@ fn submit_at<
     pen.submit(alloc, pass, since.as_ref(), command, judged, patience)
 }
 
-/// What was seen of the pen's list begins what it has published.
+/// States that what was seen of the pen's list is a prefix of what the pen has published.
 #[tactic(auto, using(crate::proofs::Ordered::nothing_begins))]
 fn cover<N: FeedName<Item, Shared>, S: Copies<Item, Shared, N>, C: Chain + Drop, R: Wait + Drop>(
     pen: &mut JoinedPen<N, S, C, R>,

@@ -23,8 +23,9 @@ use std::alloc::{AllocError, Global};
 use std::marker::Model;
 use std::sync::Wait;
 
-/// A pen over a chain: its batches are those that its keep took of what the chain told, in their order, and none is lost. Contracts see
-/// the pen. It stands in a `Mutex`.
+/// The single writer of one process over a shared log: a pen whose batches are those that its keep
+/// took of what the chain told, in their order, none of them lost. Contracts see the pen. Callers
+/// put it in a `Mutex`.
 #[derive(Drop)]
 pub struct JoinedPen<
     N: FeedName<Item, Shared>,
@@ -55,7 +56,8 @@ impl<
     C: Chain + Drop,
     R: Wait + Drop,
 > JoinedPen<N, S, C, R> {
-    /// A pen that was opened over a chain which had told nothing is such a pen, where no mark was due.
+    /// Makes one of a pen that was opened over a chain which had told nothing; no id mark may have
+    /// been due.
     pub fn new(pen: Box<Pen<N, S, JoinKeep<C>, R>>) -> JoinedPen<N, S, C, R>
         requires { IsJoined C.told pen.value }
         ensures { result ≡ pen.value }
@@ -63,8 +65,8 @@ impl<
         JoinedPen { pen }
     }
 
-    /// Takes in the next batch that others wrote, if one is told, as `take_in` of `reg_join` does. The only error is out of memory; the
-    /// batch is tried again at the next call.
+    /// Takes in the next batch that others wrote, if one is told, as `take_in` of `reg_join` does.
+    /// The only error is out of memory; the next call tries the same batch again.
     pub fn take_in(&mut self, alloc: Global, pass: &mut Pass<N>) -> Result<TakenIn, AllocError>
         ensures joined { IsJoined C.told self.new }
         ensures grows { IsPrefix self.old.published self.new.published }
@@ -75,8 +77,9 @@ impl<
         take_in(alloc, &mut self.pen, pass)
     }
 
-    /// Does a command, as `submit_joined` of `reg_join` does: where others come first it is decided anew, 64 times at most and for as long
-    /// as there is patience. `since` is the caller's last front.
+    /// Carries out a command as `submit_joined` of `reg_join` does. If others come first, it is
+    /// decided again, 64 times at most and as long as `patience` lasts. `since` is the prefix that
+    /// the caller saw last.
     pub fn submit<P: Patience>(
         &mut self,
         alloc: Global,
@@ -92,19 +95,20 @@ impl<
         ensures grows { IsPrefix self.old.published self.new.published }
         ensures ends { Ends C.told C.answers (base_of N.first) self.old command.now result.outcome result.seen self.new }
     {
-        // Its contract says that it is a pen whose list is lawful.
+        // This call's contract says that the pen's list is lawful.
         let _batches = self.pen.batches();
         submit_joined(alloc, &mut self.pen, pass, since, command, judged, patience)
     }
 
-    /// A registry that gives the same as the one over the published log. Takes no memory.
+    /// Returns a registry that answers as the one over the published log does. Takes no memory.
     pub fn registry(&self) -> &Registry
         ensures { GiveAlike result.now (registry_of (topic_at N.first self.now.published)) }
     {
         self.pen.registry()
     }
 
-    /// Whoever saw or learnt of a list of the log saw what this pen published, or a beginning of it.
+    /// States that every list that anybody saw or learnt of is a prefix of what this pen has
+    /// published.
     pub fn covers(&mut self, seen: &Seen<Item, Shared, N>)
         ensures begins { IsPrefix seen.now self.old.published }
         ensures same { self.new ≡ self.old }
@@ -112,7 +116,8 @@ impl<
         self.pen.covers(seen);
     }
 
-    /// A reader of the list that has seen nothing, from which a desk's view looks. It may be refused at any call.
+    /// Makes a reader of the list that has seen nothing; a desk's view looks through it. It is
+    /// refused if no place for a reader is left.
     pub fn reader(&mut self) -> Result<FeedReader<Item, Shared, N, S>, NoPlace>
         ensures new { IfOk result (λ reader. reader ≡ []) }
         ensures same { self.new ≡ self.old }

@@ -1,5 +1,22 @@
-//! Commands over a log that others write too, at desks that answer from its own list: they wait for the log, and so do lookups of what others
-//! may just have written.
+//! Desks (request handlers) over a log that other processes write too.
+//!
+//! A desk answers lookups from the process's own list. A command waits for the log:
+//! [`JoinCommander`] takes the pen, takes in what others wrote, and submits. A lookup waits for the
+//! log in one case only: if it finds no such id or version, another process may have written it a
+//! moment ago. Then one check of the log ([`SharedCheck`]) serves all lookups that wait, 50 checks
+//! a second at most.
+//!
+//! One idea: waiting is bounded. [`LogWaits`] counts the workers of a port that wait, so that one
+//! is left for what needs no log, and no more than half of them wait with lookups. A command is
+//! tried for 30 s, a lookup waits for 1 s.
+//!
+//! This crate doesn't speak with the store and starts no thread; `reg_join_service` does.
+//!
+//! [`JoinedPen::submit`] carries the theorem in its clause `ends`: a reply is a step from exactly
+//! what the chain had. [`joined_desks_show_what_they_reply`] is the law for clients: they read what
+//! they were told.
+//!
+//! Tests: `test_join`.
 #![tactic(auto)]
 
 mod hidden;

@@ -1,20 +1,22 @@
-// How many workers of a node wait for the log.
+// Counts the workers that wait for the log.
 ghost use Rattle.std.specs.Prelude.{◌≡◌, ◌+◌, ◌*◌, ◌<◌, ◌≤◌, IfNone, IfSome};
 
 use std::sync::atomic::{AtomicU32, Ordering};
 
-/// How many workers of a node wait for the log at one time: no more than so many, so that the others are there for what needs no log; and no
-/// more than half of those with lookups, so that commands find one.
+/// A limit on how many workers of a port wait for the log at one time, so that the others serve
+/// what needs no log. At most half of those that may wait do so with lookups, so that commands find
+/// a worker.
 #[derive(Drop)]
 pub struct LogWaits {
     most: u32,
     waiting: AtomicU32,
-    /// Those of them that wait with lookups.
+    /// How many of them wait with lookups.
     lookups: AtomicU32,
 }
 
 impl LogWaits {
-    /// None waits, and so many may: one less than the node has workers.
+    /// Makes a limit of `most` waiting workers, of which none waits yet. Give it one less than the
+    /// port has workers.
     pub const fn new(most: u32) -> LogWaits {
         LogWaits {
             most,
@@ -23,17 +25,19 @@ impl LogWaits {
         }
     }
 
-    /// One more waits with a command, if one may; `leave` has to follow where it says so.
+    /// Counts a worker that is about to wait with a command. Returns `false` if too many wait;
+    /// otherwise a call of `leave` has to follow.
     pub fn enter(&self) -> bool {
         is_one_more(&self.waiting, self.most)
     }
 
-    /// One less waits with a command.
+    /// Counts a worker with a command that has stopped waiting.
     pub fn leave(&self) {
         one_less(&self.waiting);
     }
 
-    /// One more waits with a lookup, if one may; `leave_lookup` has to follow where it says so.
+    /// Counts a worker that is about to wait with a lookup. Returns `false` if too many wait;
+    /// otherwise a call of `leave_lookup` has to follow.
     pub fn enter_lookup(&self) -> bool {
         if !is_one_more(&self.lookups, most_lookups(self.most)) {
             return false;
@@ -45,14 +49,14 @@ impl LogWaits {
         true
     }
 
-    /// One less waits with a lookup.
+    /// Counts a worker with a lookup that has stopped waiting.
     pub fn leave_lookup(&self) {
         one_less(&self.waiting);
         one_less(&self.lookups);
     }
 }
 
-/// How many of those that may wait may do so with lookups: half, and one at least.
+/// Returns how many of the waiting workers may wait with lookups: half, and at least one.
 fn most_lookups(most: u32) -> u32
     ensures some { 0 < result }
     ensures half { result * 2 ≤ most + 1 + 1 }
@@ -61,7 +65,7 @@ fn most_lookups(most: u32) -> u32
     (most / 2).max(1)
 }
 
-/// Counts one more, if that isn't more than so many.
+/// Counts one more, unless there are `most` already. Returns whether it did.
 fn is_one_more(count: &AtomicU32, most: u32) -> bool {
     count
         .fetch_update(
@@ -79,7 +83,7 @@ fn one_less(count: &AtomicU32) {
     });
 }
 
-/// One more than wait, if that isn't more than may.
+/// Returns one more than wait, unless as many as may wait do.
 fn one_more(waiting: u32, most: u32) -> Option<u32>
     ensures some { IfSome result (λ more. (more ≡ waiting + 1) × (more ≤ most)) }
     ensures none { IfNone result (most ≤ waiting) }

@@ -1,4 +1,4 @@
-// The replies that go with outcomes.
+// The replies to outcomes.
 ghost use Rattle.std.specs.Prelude.{◌≡◌};
 ghost use Rattle.reg_join_desk.specs.JoinedDesk.{declined_reply, outcome_reply};
 
@@ -6,7 +6,7 @@ use reg_fold::{Refusal, StoreFault};
 use reg_join::JoinOutcome;
 use reg_leader::Reply;
 
-/// The reply to a command that came to this.
+/// Returns the reply to a command with this outcome.
 pub(crate) fn outcome_reply(outcome: JoinOutcome) -> Reply
     ensures { result ≡ outcome_reply outcome }
 {
@@ -20,7 +20,7 @@ pub(crate) fn outcome_reply(outcome: JoinOutcome) -> Reply
     }
 }
 
-/// The reply to a command that was declined.
+/// Returns the reply to a declined command.
 pub(crate) fn declined_reply() -> Reply
     ensures { result ≡ declined_reply }
 {

@@ -2,10 +2,10 @@
 use reg_join::Patience;
 use std::time::{Clock, Duration, Instant};
 
-/// For how long a command that others came before is decided anew, in seconds.
+/// How long an overtaken command is decided again, in seconds.
 const TRIED_FOR: u64 = 30;
 
-/// Patience for 30 s. Where the clock can't be read it has no end of its own.
+/// Patience of 30 s. If the clock can't be read, it never ends.
 #[derive(Drop)]
 pub(crate) struct TimedPatience<'a, R: Clock> {
     rt: &'a R,
@@ -13,7 +13,7 @@ pub(crate) struct TimedPatience<'a, R: Clock> {
 }
 
 impl<'a, R: Clock> TimedPatience<'a, R> {
-    /// It begins now.
+    /// Starts now.
     pub(crate) fn new(rt: &'a R) -> TimedPatience<'a, R> {
         TimedPatience {
             rt,

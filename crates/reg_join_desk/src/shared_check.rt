@@ -1,24 +1,26 @@
-// What desks want of the thread that takes in.
+// What desks ask of the thread that takes in what others wrote.
 use crate::rounds::Rounds;
 use std::sync::atomic::{AtomicBool, Ordering};
 use std::sync::{Condvar, CondvarTimeouts, Mutex, Wait};
 use std::thread::Parker;
 use std::time::{Clock, Duration, Instant};
 
-/// Checks that lookups share: a lookup that didn't find what others may just have written waits for one, and one thread makes them, 50 a
-/// second at most. However many lookups wait, one check that was begun after they came serves them all. One is made by itself where none was
-/// for some time, so that it shows whether the store answers. A desk whose command found that nothing is taken in any more says so here, too.
+/// Checks of the log that lookups share. A lookup that didn't find what another process may just
+/// have written waits for one; one thread makes them, at most 50 a second. One check that began
+/// after several lookups came serves them all. The thread also makes one if none was made for some
+/// time, which shows whether the store answers. A desk whose command found that nothing is taken in
+/// any more reports it here.
 #[derive(Drop)]
 pub struct SharedCheck {
     wanted: AtomicBool,
     has_stopped: AtomicBool,
     rounds: Mutex<Rounds>,
-    // Notified where a check is begun, and where it is over.
+    // Notified when a check begins and when it ends.
     turned: Condvar,
 }
 
 impl SharedCheck {
-    /// None is wanted.
+    /// Makes one that nobody waits for.
     pub const fn new() -> SharedCheck {
         SharedCheck {
             wanted: AtomicBool::new(false),
@@ -28,24 +30,26 @@ impl SharedCheck {
         }
     }
 
-    /// A command found that what was told is no command's, so that nothing is taken in any more. `grown` is unparked, so that it is reported.
+    /// Reports that a command found a told batch that no command writes, so that nothing is taken
+    /// in any more. Unparks `grown`, whose thread tells the operator.
     pub fn find_stop(&self, grown: &Parker) {
         self.has_stopped.store(true, Ordering::SeqCst);
         grown.unpark();
     }
 
-    /// Whether a command found that. It waits for nobody.
+    /// Returns whether a command found that. Never blocks.
     pub fn has_stopped(&self) -> bool {
         self.has_stopped.load(Ordering::SeqCst)
     }
 
-    /// Whether a lookup waits for a check that isn't begun. It waits for nobody.
+    /// Returns whether a lookup waits for a check that hasn't begun. Never blocks.
     pub fn is_wanted(&self) -> bool {
         self.wanted.load(Ordering::SeqCst)
     }
 
-    /// Begins a check, if one is wanted, or none was begun for that long; its number. Whoever makes it then takes in what was told, asks
-    /// the chain, shows the nodes what came, and calls `done`.
+    /// Begins a check if a lookup waits for one, or if none was begun for `every`, and returns its
+    /// number. The caller then takes in what was told, asks the chain, publishes the result, and
+    /// calls `done`.
     pub fn begin<R: Wait + Clock>(&self, rt: &R, every: Duration) -> Option<u64> {
         let now = Instant::now(rt).ok();
         let mut rounds = self.rounds.lock(rt);
@@ -58,15 +62,16 @@ impl SharedCheck {
         Some(round)
     }
 
-    /// The check of that number is over.
+    /// Ends the check of that number and wakes the lookups that wait for it.
     pub fn done<R: Wait>(&self, rt: &R, round: u64) {
         let mut rounds = self.rounds.lock(rt);
         rounds.end(round);
         self.turned.notify_all();
     }
 
-    /// Waits until a check is over that was begun after this call was made, but no longer than that, apart from the 20 ms for which the
-    /// next one may have to wait. `grown` is unparked once it is wanted. `false` where the time is up.
+    /// Waits until a check that began after this call is over, for `within` at most, plus up to 20
+    /// ms until the next check may begin. Unparks `grown` when it needs the check. Returns `false`
+    /// if the time is up.
     pub fn wait_for_one<R: Wait + Clock>(&self, rt: &R, grown: &Parker, within: Duration) -> bool {
         let rounds = self.rounds.lock(rt);
         let round = rounds.next();

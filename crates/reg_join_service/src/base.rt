@@ -15,13 +15,15 @@ use std::io::BufRead;
 /// A log that a process begins with.
 #[derive(Drop)]
 pub struct Base {
+    /// The log.
     pub log: Log,
-    /// What a topic over the log begins with: nothing but the log.
+    /// The first state of a topic over the log. It has no record beside the log's.
     pub begun: Begun,
 }
 
-/// Reads the base that an adapter tells first: a log up to its empty line, which nothing keeps from being served, and behind which no mark
-/// of ids is due. What stands behind the empty line is left unread.
+/// Reads the base that an adapter tells first: a log, up to its empty line. What follows is left
+/// unread. Refused if it isn't a log, if it can't be served, if an id mark is due behind it, if the
+/// reader fails, or if memory is refused.
 pub fn read_base<B: BufRead>(alloc: Global, reader: &mut Device<B>) -> Result<Base, JoinBaseError>
     ensures read { IfOk result (λ base. HasRead (bytes_in B.remaining reader.old) (bytes_in B.remaining reader.new) base.log) }
     ensures begins { IfOk result (λ base. MayBegin base.log) }
@@ -35,7 +37,7 @@ pub fn read_base<B: BufRead>(alloc: Global, reader: &mut Device<B>) -> Result<Ba
     }
 }
 
-/// Adopts a log that a process may begin with.
+/// Makes the first state of a topic over a log, with the refusals of [`read_base`].
 fn begin_with(alloc: Global, log: &Log) -> Result<Begun, JoinBaseError>
     ensures begins { OnOk result (MayBegin log.now) }
     ensures begun { IfOk result (BeginsWith log.now) }
@@ -52,7 +54,8 @@ fn begin_with(alloc: Global, log: &Log) -> Result<Begun, JoinBaseError>
     Ok(begun)
 }
 
-/// Returns why no process can begin with a log that isn't adopted: all that keeps it from being served, unless memory is refused.
+/// Returns why no process can begin with a log that was refused: all obstacles to serving it, or
+/// that memory is refused.
 fn refusal(alloc: Global, log: &Log, refused: AdoptError) -> JoinBaseError
     requires { IsAdoptRefusal (lasts_of log.now) log.now.next refused }
     ensures { IsRefusedLog log.now result }

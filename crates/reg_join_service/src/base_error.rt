@@ -4,16 +4,16 @@ use reg_records::LogError;
 use std::alloc::AllocError;
 use thiserror::Error;
 
-/// Why a process can't begin with the base that it is told.
+/// Why a process can't begin with the base that it was told.
 #[derive(Debug, Drop, PartialEq, Eq, Error)]
 pub enum JoinBaseError {
-    /// It is no log, the reader failed, or memory was refused.
+    /// It isn't a log, the reader failed, or memory was refused.
     #[error("{0}")]
     Log(LogError),
-    /// All that keeps it from being served; there is something.
+    /// It can't be served, for these reasons; there is at least one.
     #[error("it can't be served")]
     Closed(Vec<Obstacle>),
-    /// A mark of ids is due behind it. Only a batch of the log may be one, so that all processes have it.
+    /// An id mark is due behind it. Only the log may hold one, so that all processes have it.
     #[error("a mark of ids is due behind it")]
     MarkDue,
 }
@@ -22,7 +22,8 @@ impl JoinBaseError {
     ghost use Rattle.std.specs.Prelude.{◌≡◌};
     ghost use Rattle.reg_join_service.specs.Base.{exit_status};
 
-    /// The exit status of a program that ends with it.
+    /// Returns the exit status of a program that ends with this error: 2 if the base is at fault, 1
+    /// if the reader failed or memory was refused.
     pub fn status(&self) -> u8
         ensures { result ≡ exit_status self.now }
     {

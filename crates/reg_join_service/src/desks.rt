@@ -14,7 +14,7 @@ use std::hash::RandomState;
 use std::sync::{Mutex, Wait};
 use std::time::Clock;
 
-/// A desk that answers from the log's own list, and submits to its pen.
+/// A desk that answers from the process's own list and submits to its pen.
 pub(crate) type JoinedDesk<'a, N, S, C, R> = FeedDesk<
     Item,
     Shared,
@@ -23,7 +23,7 @@ pub(crate) type JoinedDesk<'a, N, S, C, R> = FeedDesk<
     JoinCommander<'a, N, S, C, R>,
 >;
 
-/// For each port how many of its workers may wait for the log: one less than it has.
+/// Makes the limit of waiting workers for each port: one less than it has workers.
 pub(crate) fn waits_of(alloc: Global, size: Size) -> Result<Vec<LogWaits>, ServiceError> {
     let mut waits = Vec::new(alloc);
     for _port in 0..size.ports() {
@@ -32,7 +32,7 @@ pub(crate) fn waits_of(alloc: Global, size: Size) -> Result<Vec<LogWaits>, Servi
     Ok(waits)
 }
 
-/// The desks of all ports, those of the first one last, each with one of the passes.
+/// Makes the desks of all ports, those of the first port last. Each takes one of the passes.
 pub(crate) fn make_desks<
     'a,
     N: FeedName<Item, Shared>,
@@ -60,7 +60,7 @@ pub(crate) fn make_desks<
     Ok(desks)
 }
 
-/// A desk of the port whose workers wait for the log there.
+/// Makes a desk of the port whose limit is `waits`.
 fn make_desk<
     'a,
     N: FeedName<Item, Shared>,
@@ -92,7 +92,7 @@ fn make_desk<
     Ok(FeedDesk::new(commander, view))
 }
 
-/// A view of the pen's list.
+/// Makes a view of the pen's list.
 fn view_of<N: FeedName<Item, Shared>, S: Copies<Item, Shared, N>, C: Chain + Drop, R: Wait + Drop>(
     rt: &R,
     alloc: Global,

@@ -1,4 +1,4 @@
-// Why a process doesn't serve a log that others write too, or no longer.
+// Why a process doesn't serve a shared log, or no longer does.
 use crate::base_error::JoinBaseError;
 use reg_adapter_line::LineEnd;
 use reg_leader::AdoptError;
@@ -7,19 +7,19 @@ use reg_service::ServiceError;
 use std::fmt;
 use thiserror::Error;
 
-/// Why a process doesn't serve a log that others write too, or no longer.
+/// Why a process doesn't serve a shared log, or no longer does.
 #[derive(Debug, Drop, PartialEq, Eq, Error)]
 pub enum JoinError {
     /// It can't begin with the base that it was told.
     #[error("base: {0}")]
     Base(#[from] JoinBaseError),
-    /// Nothing more is told, for that reason, and `ready` wasn't.
+    /// The adapter tells no more, for this reason, and never told `ready`.
     #[error("not ready: {}", Told(*.0))]
     NotReady(LineEnd),
-    /// Nothing more is told, for that reason, which isn't the end of the input.
+    /// The adapter tells no more, for this reason, which isn't the end of the input.
     #[error("adapter: {}", Told(*.0))]
     Adapter(LineEnd),
-    /// The base can't be taken over. There is no such end: that was looked at before.
+    /// No pen can be opened over the base. It never comes: the base is checked before.
     #[error("base: {0}")]
     NotOpened(OpenError),
     /// Memory was refused, or ports can't be served.
@@ -27,7 +27,7 @@ pub enum JoinError {
     Service(#[from] ServiceError),
 }
 
-/// An end, as it is told.
+/// The reason, as the message shows it.
 #[derive(Clone, Copy, Drop)]
 struct Told(LineEnd);
 
@@ -46,7 +46,8 @@ impl fmt::Display for Told {
 }
 
 impl JoinError {
-    /// The exit status of a program that ends with it.
+    /// Returns the exit status of a program that ends with this error: 2 if the base or the history
+    /// is at fault, 1 if serving failed.
     pub fn status(&self) -> u8 {
         match self {
             JoinError::Base(error) => error.status(),

@@ -1,4 +1,4 @@
-// What takes in what is told, for all ports.
+// The work of the thread that takes in what is told.
 use crate::taking::Taker;
 use crate::watch::Watch;
 use reg_adapter_line::AdapterLine;
@@ -14,10 +14,11 @@ use std::sync::{Mutex, Wait};
 use std::thread::Parker;
 use std::time::{Clock, Duration};
 
-/// A check is made where none was for so long, in seconds.
+/// A check is made if none was for this long, in seconds.
 const CHECK_EVERY: u64 = 5;
 
-/// Takes in what is told, and makes the checks that lookups want. What is taken in is published by the pen, whose list all ports show.
+/// Takes in what is told, and makes the checks that lookups wait for. The pen publishes it, and all
+/// ports show the pen's list.
 #[derive(Drop)]
 pub(crate) struct Following<
     'a,
@@ -43,7 +44,8 @@ impl<
     R: Wait + Clock + Drop,
     W: Watch,
 > Following<'a, N, S, C, R, W> {
-    /// Takes in what was told, with a check or without one. What memory is refused for is taken in by another call.
+    /// Takes in what was told, with a check or without. If memory is refused, a later call takes in
+    /// the rest.
     fn take(&self, checks: bool) {
         let mut taker = self.taker.lock(self.rt);
         if taker.passes_over() {
@@ -61,8 +63,8 @@ impl<
         }
     }
 
-    /// Takes in what was told, asks whether something stands behind it, while others may have the pen, and where that is so, takes in what was
-    /// told since. The only error is out of memory.
+    /// Takes in what was told and asks the chain for more, without the pen. If there is more, takes
+    /// in what was told meanwhile. The only error is out of memory.
     fn check(&self, taker: &mut Taker<N, S, C>) -> Result<TakenIn, AllocError> {
         let taken = self.take_all(taker)?;
         if taken == TakenIn::All && taker.ask_for_news() == ChainAnswer::Behind {
@@ -71,13 +73,13 @@ impl<
         Ok(taken)
     }
 
-    /// Takes in some of what was told, while nobody else has the pen.
+    /// Takes in up to 1,024 batches while it holds the pen.
     fn take_told(&self, taker: &mut Taker<N, S, C>) -> Result<TakenIn, AllocError> {
         let mut pen = self.pen.lock(self.rt);
         taker.take(&mut pen)
     }
 
-    /// Takes in all that was told, while nobody else has the pen.
+    /// Takes in up to 65,536 batches while it holds the pen.
     fn take_all(&self, taker: &mut Taker<N, S, C>) -> Result<TakenIn, AllocError> {
         let mut pen = self.pen.lock(self.rt);
         taker.take_all(&mut pen)

@@ -13,11 +13,11 @@ use reg_topic::Item;
 use std::sync::Wait;
 use std::time::{Clock, Duration};
 
-/// Where an adapter says nothing for so long before `ready`, in seconds, that is said.
+/// If an adapter tells nothing for this long before `ready`, in seconds, the operator is told.
 const SILENT_FOR: u64 = 30;
 
-/// Takes in all that is told before `ready`, while nobody else has the pen. Where something is no command's, the rest is left. Fails where
-/// memory is refused, and where it is over before `ready`.
+/// Takes in all that is told before `ready`. If no command writes a batch, the rest is left. Fails
+/// if memory is refused, or if the input ends before `ready`.
 pub(crate) fn take_history<
     N: FeedName<Item, Shared>,
     S: Copies<Item, Shared, N>,
@@ -33,7 +33,7 @@ pub(crate) fn take_history<
 ) -> Result<(), JoinError> {
     let mut seconds: u64 = 0;
     for _news in rt.forever() {
-        // All that is told before `ready`, or before the end, is due once that was read.
+        // All that was told before `ready`, or before the end, is due once this was read.
         let (is_ready, is_over) = (line.is_ready(), line.is_over());
         take_told(rt, taker, pen, watch)?;
         if is_ready {
@@ -51,7 +51,7 @@ pub(crate) fn take_history<
     unreachable!()
 }
 
-/// One more second went by without a word; how many did since the last that was said of it.
+/// Counts one more silent second. Returns how many there were since the operator was told.
 fn wait_on<R: Wait + Clock, W: Watch>(rt: &R, line: &AdapterLine, watch: &W, seconds: u64) -> u64 {
     line.end_stalls(rt);
     let seconds = seconds.saturating_add(1);
@@ -88,7 +88,7 @@ fn take_told<
     unreachable!()
 }
 
-/// Why nothing more is told. Where that isn't known, the input has ended.
+/// Returns why the adapter tells no more; the end of the input if that isn't known.
 pub(crate) fn end_of<R: Wait>(rt: &R, line: &AdapterLine) -> LineEnd {
     line.end(rt).unwrap_or(LineEnd::Input)
 }

@@ -1,5 +1,21 @@
-//! A process that serves a log which others write too: the base that its adapter tells first, the history up to `ready`, and then ports,
-//! while a thread takes in what is told.
+//! A process that serves a log which other processes write too.
+//!
+//! An *adapter*, a program beside it, speaks with the store: it tells the base (a log), then the
+//! batches behind it, then `ready`, then what others write; and it appends what this process asks
+//! it to. [`serve_joined`] reads the base, takes in all up to `ready`, and then serves its ports,
+//! while one thread takes in what is told.
+//!
+//! One idea: each batch of others is decided again before it is taken. So processes that share a
+//! log need the same [`RULES`], and a batch that no command writes stops the taking in; [`Watch`]
+//! tells the operator, and lookups go on.
+//!
+//! It doesn't speak with a store, and it keeps no file.
+//!
+//! [`read_base`] carries the theorem about what a process begins with, in its clauses `begins` and
+//! `refused`. The theorems about replies are in `reg_join` and `reg_join_desk`; the serving around
+//! them is tested, not proved.
+//!
+//! Tests: `test_join` has those of the pen and the desks.
 #![tactic(auto)]
 
 mod base;

@@ -22,8 +22,8 @@ pub(crate) struct OpenedBase<N: FeedName<Item, Shared>, C: Chain + Drop, R: Wait
     pub(crate) passes: Vec<Pass<N>>,
 }
 
-/// Opens a pen over a base, and over a chain that has told nothing: the chain isn't asked for anything. There are so many passes, and places
-/// for so many readers.
+/// Opens a pen over a base and over a chain that has told nothing; nothing is asked of the chain.
+/// Makes `count` passes, and room for `count` readers.
 pub(crate) fn open_base<N: FeedName<Item, Shared>, C: Chain + Drop, R: Wait + Drop>(
     rt: R,
     alloc: Global,

@@ -1,4 +1,4 @@
-// A process over a log that others write too: the base, the history, and then the ports.
+// A process over a shared log: the base, the history, and then the ports.
 ghost use Rattle.std.specs.Prelude.{◌≡◌, ◌≤◌, [], IfOk};
 ghost use Rattle.reg_topic.specs.Topic.{topic_from};
 ghost use Rattle.reg_shared.specs.Held.{held_of};
@@ -38,16 +38,21 @@ use std::time::{Clock, Duration};
 /// How long a command waits for an answer of the adapter, in seconds.
 const ANSWER_WITHIN: u64 = 30;
 
-/// How long a check for lookups waits for one, in seconds: so long a command may have to wait for the check.
+/// How long a check for lookups waits for an answer, in seconds. A command may have to wait for the
+/// check.
 const CHECKED_WITHIN: u64 = 1;
 
-/// Serves a log that others write too, which an adapter tells on the reader, and to which it is asked to append on the writer: the base,
-/// then what stands behind it; the ports listen once all of it was taken in that was told before `ready`. A port has from 2 to 16 workers,
-/// of which all but one may wait for the log. Connections and requests of all ports are counted in the traffic, and what is said to the adapter
-/// and by it is overheard.
+/// Serves a log that other processes write too. The adapter tells it on `reader`, and is asked to
+/// append on `writer`. First comes the base, then what is behind it; the ports listen once all that
+/// was told before `ready` is taken in. A port has from 2 to 16 workers, of which all but one may
+/// wait for the log. `traffic` counts the connections and requests of all ports, and `overhear`
+/// hears all messages to and from the adapter.
 ///
-/// With a limit the call returns once all ports have ended. Without one it returns once the adapter tells no more: at the end of the input
-/// that is no error, if `ready` was told; and where the base can't be served, or the ports can't be started.
+/// With a limit the call returns once all ports have ended. Without one it returns once the adapter
+/// tells no more; after `ready`, the end of the input isn't an error.
+///
+/// Fails if the base can't be served, if the adapter ends before `ready` or with a fault, if the
+/// ports can't be started, or if memory is refused.
 pub fn serve_joined<
     B: BufRead + Send + Drop + 'static,
     O: Write + Send + Drop + 'static,
@@ -86,7 +91,7 @@ pub fn serve_joined<
     )
 }
 
-/// Where the adapter's messages come from, and where requests go.
+/// The two ends of the adapter: its messages come from `reader`, and requests go to `writer`.
 #[derive(Drop)]
 struct Adapter<B: Drop, O: Drop> {
     reader: B,
@@ -140,7 +145,7 @@ struct Ends<R: Wait + Clock + Drop> {
     rest: AdapterChain<R>,
 }
 
-/// A line to an adapter on which nothing was said yet behind a base whose next offset is this.
+/// Makes a line to an adapter on which nothing was said yet, behind a base with this next offset.
 fn ends_behind<R: Wait + Clock + Copy + Drop>(
     rt: R,
     alloc: Global,
@@ -156,7 +161,7 @@ fn ends_behind<R: Wait + Clock + Copy + Drop>(
     Ok(Ends { line, chain, rest })
 }
 
-/// The pen with what takes in, and the passes of the desks.
+/// The pen, what takes in batches, and the passes of the desks.
 #[derive(Drop)]
 struct Held<
     N: FeedName<Item, Shared>,
@@ -169,7 +174,7 @@ struct Held<
     passes: Vec<Pass<N>>,
 }
 
-/// Gives one of the passes to what takes in, with a reader of its own.
+/// Gives what takes in batches one of the passes and a reader of its own.
 fn hold<N: FeedName<Item, Shared>, C: Chain + Drop, R: Wait + Drop>(
     alloc: Global,
     opened: OpenedBase<N, C, R>,
@@ -190,7 +195,8 @@ fn hold<N: FeedName<Item, Shared>, C: Chain + Drop, R: Wait + Drop>(
     })
 }
 
-/// Takes in the history, serves at the ports, and says why they ended: the end of the input is no error.
+/// Takes in the history and serves at the ports until they end. Fails if the adapter ended for
+/// another reason than the end of the input.
 fn serve_history<
     N: FeedName<Item, Shared> + Send + Sync,
     S: Copies<Item, Shared, N> + Send + Sync,
@@ -218,7 +224,7 @@ fn serve_history<
     }
 }
 
-/// Makes the desks, and serves at the ports, while what is told is taken in.
+/// Makes the desks and serves at the ports, while what is told is taken in.
 fn serve_held<
     'a,
     N: FeedName<Item, Shared> + Send + Sync,

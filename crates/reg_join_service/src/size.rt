@@ -3,13 +3,13 @@ ghost use Rattle.std.specs.Prelude.{◌≤◌};
 
 use reg_service::Size;
 
-/// The least workers of a port: all but one may wait for the log, so that one is there for lookups.
+/// The least workers of a port: all but one may wait for the log, and one is left for lookups.
 const WORKERS_LEAST: u32 = 2;
 
 /// The most workers of a port.
 const WORKERS_LIMIT: u32 = 16;
 
-/// The same size, with the nearest number of workers that a port may have.
+/// Returns the same size with the nearest allowed number of workers.
 pub(crate) fn joined_size(size: Size) -> Size
     ensures { (WORKERS_LEAST ≤ result.workers) × (result.workers ≤ WORKERS_LIMIT) }
 {

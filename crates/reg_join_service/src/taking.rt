@@ -1,4 +1,4 @@
-// What takes in what an adapter tells.
+// Taking in what an adapter tells.
 ghost use mathlib.Core.List.{IsPrefix};
 
 use reg_chain::{Chain, ChainAnswer};
@@ -14,24 +14,26 @@ use std::sync::Wait;
 /// How many batches are taken in at most while the pen is held.
 const TAKEN_AT_ONCE: u32 = 1_024;
 
-/// How many are taken in at most that stood in the chain before a check.
+/// How many batches are taken in at most before and after a check.
 const TAKEN_WITH_CHECK: u32 = 65_536;
 
-/// Takes in what an adapter tells, by a pass and a reader of the log's list of its own.
+/// Takes in what an adapter tells. It has a pass and a reader of the list of its own.
 #[derive(Drop)]
 pub(crate) struct Taker<N: FeedName<Item, Shared>, S: Copies<Item, Shared, N>, C: Chain + Drop> {
     alloc: Global,
     pass: Pass<N>,
     list: FeedReader<Item, Shared, N, S>,
-    // The next offset when it was looked up last.
+    // The next offset when it was last looked up.
     next: u64,
     is_stopped: bool,
-    // Another end of the pen's chain: it is asked for news, and gives the batches that the pen doesn't take any more.
+    // Another end of the pen's chain. It is asked for news, and tells the batches that the pen
+    // doesn't take any more.
     rest: C,
 }
 
 impl<N: FeedName<Item, Shared>, S: Copies<Item, Shared, N>, C: Chain + Drop> Taker<N, S, C> {
-    /// One that has taken in nothing behind a base whose next offset is this. `rest` is another end of the pen's chain.
+    /// Makes one that has taken in nothing behind a base with this next offset. `rest` is another
+    /// end of the pen's chain.
     pub(crate) fn new(
         alloc: Global,
         pass: Pass<N>,
@@ -49,7 +51,7 @@ impl<N: FeedName<Item, Shared>, S: Copies<Item, Shared, N>, C: Chain + Drop> Tak
         }
     }
 
-    /// The offset behind all that is published.
+    /// Returns the offset behind all that is published.
     pub(crate) fn next(&mut self) -> u64 {
         if let Some(next) = self.list.read(|shared| shared.next()) {
             self.next = next;
@@ -57,8 +59,9 @@ impl<N: FeedName<Item, Shared>, S: Copies<Item, Shared, N>, C: Chain + Drop> Tak
         self.next
     }
 
-    /// Takes in what was told, 1,024 batches at most. `Batch` where more may be there; `Stopped` where what was told next is no command's.
-    /// The only error is out of memory; what was refused is taken in by another call.
+    /// Takes in what was told, 1,024 batches at most. `Batch` if there may be more; `Stopped` if no
+    /// command writes what was told next. The only error is out of memory; a later call takes in
+    /// the rest.
     pub(crate) fn take<R: Wait + Drop>(
         &mut self,
         pen: &mut JoinedPen<N, S, C, R>,
@@ -68,7 +71,8 @@ impl<N: FeedName<Item, Shared>, S: Copies<Item, Shared, N>, C: Chain + Drop> Tak
         self.take_some(pen, TAKEN_AT_ONCE)
     }
 
-    /// Takes in what was told, 65,536 batches at most. `All` where nothing is left. The only error is out of memory.
+    /// Takes in what was told, 65,536 batches at most. `All` if nothing is left. The only error is
+    /// out of memory.
     pub(crate) fn take_all<R: Wait + Drop>(
         &mut self,
         pen: &mut JoinedPen<N, S, C, R>,
@@ -78,12 +82,13 @@ impl<N: FeedName<Item, Shared>, S: Copies<Item, Shared, N>, C: Chain + Drop> Tak
         self.take_some(pen, TAKEN_WITH_CHECK)
     }
 
-    /// Asks the chain whether something stands behind all that was told. It needs no pen.
+    /// Asks the chain whether it has batches beyond all that was told. Needs no pen.
     pub(crate) fn ask_for_news(&mut self) -> ChainAnswer {
         self.rest.append(&[])
     }
 
-    /// Whether nothing is taken in any more, since something that was told was no command's. What was told since is dropped then.
+    /// Returns whether nothing is taken in any more, since no command writes a batch that was told.
+    /// Then it also drops what was told since.
     pub(crate) fn passes_over(&mut self) -> bool {
         if self.is_stopped {
             for _batch in 0..TAKEN_WITH_CHECK {
@@ -95,7 +100,7 @@ impl<N: FeedName<Item, Shared>, S: Copies<Item, Shared, N>, C: Chain + Drop> Tak
         self.is_stopped
     }
 
-    /// Takes in what was told, so many batches at most.
+    /// Takes in what was told, `most` batches at most.
     #[tactic(auto, using(crate::proofs::Prefixes::prefix_self, crate::proofs::Prefixes::prefix_trans))]
     fn take_some<R: Wait + Drop>(
         &mut self,

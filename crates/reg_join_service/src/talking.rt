@@ -1,4 +1,4 @@
-// The threads that read messages and write requests.
+// The threads that read the adapter's messages and write requests to it.
 use reg_adapter_line::{AdapterLine, Overhear, read_messages, send_requests};
 use reg_service::ServiceError;
 use std::alloc::Global;
@@ -7,7 +7,7 @@ use std::sync::{Arc, Wait};
 use std::thread::{self, Threads};
 use std::time::Clock;
 
-/// What a thread does beside the ports.
+/// The work of a thread beside the ports.
 trait Talk {
     fn run(&mut self, line: &AdapterLine);
 }
@@ -43,7 +43,8 @@ impl<W: Write + Drop, R: Wait + Clock + Drop, H: Overhear + Drop> Talk for Sendi
     }
 }
 
-/// Starts the thread that reads messages and the one that writes requests. Nobody waits for them: they may read and write for ever.
+/// Starts the thread that reads messages and the one that writes requests. Nobody joins them: they
+/// may block for ever. Fails if a thread can't be started, or if memory is refused.
 pub(crate) fn start_talking<
     B: BufRead + Send + Drop + 'static,
     W: Write + Send + Drop + 'static,

@@ -1,11 +1,11 @@
-// Who is told what becomes of the log.
+// What tells the operator about the log.
 
-/// Who is told that nothing is taken in any more, and that nothing comes.
+/// What tells the operator that nothing is taken in any more, or that the adapter is silent.
 pub trait Watch {
-    /// What was told next, behind that offset's predecessor, is no command's: nothing is taken in any more, and commands are refused.
-    /// Called once at most, by any thread.
+    /// Called once at most, by any thread: no command writes the batch that was told for this
+    /// offset, so nothing is taken in any more and commands are refused.
     fn stopped(&self, offset: u64);
 
-    /// The adapter has said nothing for 30 s, and `ready` isn't there. Called again each 30 s.
+    /// Called if the adapter has told nothing for 30 s and not yet `ready`; again after each 30 s.
     fn silent(&self);
 }

@@ -1,12 +1,14 @@
-// What pens over one chain say. What is proved here costs nothing at run time: a function that needs a law calls it.
+// What pens over one chain agree on. The laws cost nothing at run time: a function that needs one
+// calls it.
 ghost use Rattle.reg_joined.specs.Pens.{LevelPensTookAll, NewPensJoin, NoIdNamesTwoWithPens, PensGiveSameBytes, PensTakePart, ReadersTakePart};
 
 use reg_chain::Chain;
 use reg_processes::{fronts_take_part, no_id_names_two_schemas, same_logs_give_same_bytes};
 use reg_topic::lawful_items_follow;
 
-/// A pen takes part in the chain of which its own chain told a beginning, with what is pending and with
-/// what its readers see; where all that was told is taken, it took that. A pen that begins does so.
+/// States that a pen takes part in the chain: what it has published and what is pending, and what
+/// its readers see, is what a prefix of the chain's batches comes to. If all that was told is
+/// taken, this is all of it. A new pen takes part too.
 pub fn pens_take_part<C: Chain>()
     ensures pens { PensTakePart C.told }
     ensures readers { ReadersTakePart C.told }
@@ -17,8 +19,9 @@ pub fn pens_take_part<C: Chain>()
     lawful_items_follow();
 }
 
-/// So readers of two pens that have published as much give a query's answer by the same bytes, and no id
-/// names two schemas with any two of them, also where the pens' chains are of different kinds.
+/// States that readers of two pens that have published as many batches answer a query by the same
+/// bytes, and that no id names two schemas with any two of them. The pens' chains may be of
+/// different kinds.
 pub fn pens_say_the_same<C: Chain, D: Chain>()
     ensures bytes { PensGiveSameBytes C.told D.told }
     ensures ids { NoIdNamesTwoWithPens C.told D.told }

@@ -17,19 +17,19 @@ use std::thread::Parker;
 pub(crate) struct Common<'a, R, G> {
     pub(crate) rt: &'a R,
     pub(crate) alloc: Global,
-    /// Under them the judges of desks find texts.
+    /// The hash keys under which the judges of desks find texts.
     pub(crate) keys: RandomState,
-    /// What wakes a node's follower; one a node.
+    /// What wakes the followers; one for each node.
     pub(crate) grown: &'a [Parker],
     pub(crate) latch: &'a Latch,
     pub(crate) gate: &'a G,
-    /// How many calls of desks there were.
+    /// How many requests the desks have had.
     pub(crate) calls: &'a AtomicU64,
-    /// From 1 to `NODES_LIMIT`.
+    /// The number of nodes, from 1 to `NODES_LIMIT`.
     pub(crate) nodes: usize,
     /// The workers of a node.
     pub(crate) workers: u32,
-    /// After how many closed connections a node ends.
+    /// After how many closed connections a node ends; `None` for never.
     pub(crate) limit: Option<u64>,
     pub(crate) limits: Limits,
     /// Where connections and requests are counted.
@@ -57,7 +57,7 @@ impl<N: FeedName<Item, Shared>> Wake<N> for Others<'_> {
     }
 }
 
-/// Takes all that a list has.
+/// Takes all elements out of a list.
 pub(crate) fn take_all<T, R: Wait>(rt: &R, alloc: Global, list: &Mutex<Vec<T>>) -> Vec<T> {
     let mut list = list.lock(rt);
     mem::replace(&mut *list, Vec::new(alloc))

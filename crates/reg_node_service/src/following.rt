@@ -8,7 +8,7 @@ use reg_topic::Item;
 use std::sync::{Mutex, Wait};
 use std::thread::Parker;
 
-/// A node's follower, with what wakes its thread, and where the node's traffic is counted.
+/// A node's follower, with what wakes its thread and what counts the node's traffic.
 #[derive(Drop)]
 pub(crate) struct Following<
     'a,
@@ -51,14 +51,14 @@ impl<
 > Follow for Following<'a, N, S, M, U, R> {
     fn follow(&self) {
         let mut follower = self.follower.lock(self.rt);
-        // What is refused now is tried again at the next call.
+        // If memory is refused, the next call tries again.
         if follower.pull().is_ok() {
             let _told = follower.publish();
         }
         follower.catch_up_unshown();
     }
 
-    // The topic goes on as long as the process.
+    // The topic lasts as long as the process.
     fn is_over(&self) -> bool {
         false
     }

@@ -1,7 +1,7 @@
-// The gate of a program without tests.
+// The gate of a program outside tests.
 use reg_desk::Gate;
 
-/// Lets each call pass.
+/// A gate that lets each request pass at once.
 #[derive(Drop)]
 pub struct NoGate;
 

@@ -1,4 +1,4 @@
-// Making nodes, one after the other: each stands here while the threads of all run.
+// Makes the nodes, one after the other; each stays on the stack here while the threads of all run.
 use crate::common::{Others, take_all};
 use crate::following::Following;
 use crate::parts::{NamedDesk, Parts, Resources, make_desks, make_server};
@@ -126,7 +126,7 @@ fn make_third<
     )
 }
 
-/// The desks of the node of that number; none where it has no parts.
+/// Makes the desks of the node of that number; none if it has no parts.
 fn desks_of<
     'y,
     N: FeedName<Item, Shared>,
@@ -161,7 +161,7 @@ fn desks_of<
     )
 }
 
-/// The server of the node of that number; none where it has no parts.
+/// Makes the server of the node of that number; none if it has no parts.
 fn servers_of<
     'y,
     N: FeedName<Item, Shared>,

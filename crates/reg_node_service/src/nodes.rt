@@ -28,11 +28,13 @@ use std::sync::{Mutex, Wait};
 use std::thread::{Parker, Threads};
 use std::time::Clock;
 
-/// Serves an empty topic, which ends with the process, by so many nodes, each with a poller, which holds the connections, and workers. A
-/// worker calls the gate before it answers a query or does a command. Connections and requests of all nodes are counted in the traffic.
+/// Serves an empty topic, which ends with the process, by the nodes that `size` asks for: from one
+/// to `NODES_LIMIT`. Each node has a poller, which holds the connections, and workers. A worker
+/// calls the gate before it answers a query or carries out a command. `traffic` counts the
+/// connections and requests of all nodes.
 ///
-/// With a limit the call returns once all nodes have ended. Without one it returns only where the nodes
-/// can't be started.
+/// With a limit the call returns once all nodes have ended. Without one it returns only if the
+/// nodes can't be started.
 pub fn serve_nodes<
     R: Threads + Wait + Clock + Net + RandomSource + Sync + Send + Copy + Drop,
     G: Gate + Sync,
@@ -98,7 +100,7 @@ fn serve_kept<
     serve_topic::<Brand, K, R, G, E>(&common, Unnamed::new(), kept, endpoints)
 }
 
-/// Makes the topic, and goes on with the nodes.
+/// Opens the pen of the topic, and goes on with the nodes.
 fn serve_topic<
     N: FeedName<Item, Shared> + Send + Sync,
     K: Keep + Send + Drop,
@@ -147,7 +149,7 @@ fn serve_pen<
     endpoints: &mut E,
 ) -> Result<(), ServiceError> {
     add_readers(pen.get_mut(), &mut handles.readers, readers)?;
-    // For as long as the pen.
+    // A copy that may be borrowed for as long as the pen.
     let here = Common {
         rt: common.rt,
         alloc: common.alloc,
@@ -165,7 +167,7 @@ fn serve_pen<
     add_first::<N, S, K, Brand, R, G, E>(&here, pen, handles, Unnamed::new(), endpoints)
 }
 
-/// Adds so many readers of the topic.
+/// Adds `count` readers of the topic.
 fn add_readers<
     N: FeedName<Item, Shared>,
     S: Copies<Item, Shared, N>,
@@ -246,7 +248,7 @@ fn add_second<
     )
 }
 
-/// Makes the third node's feed, if there is one. Then the nodes listen, and are made.
+/// Makes the third node's feed, if there is one. Then the ports listen, and the nodes are made.
 fn add_third<
     'x,
     N: FeedName<Item, Shared> + Send + Sync,

@@ -1,4 +1,4 @@
-// What the nodes have of the topic, and what one of them is made of.
+// What the nodes need of the topic, and what a node is made of.
 ghost use Rattle.std.specs.Prelude.{◌≡◌, ◌≤◌};
 ghost use Rattle.std.specs.FinSet.{empty};
 
@@ -16,12 +16,12 @@ use std::alloc::Global;
 use std::net::{Net, TcpListener};
 use std::sync::{Mutex, Wait};
 
-/// What nodes that aren't made yet have of the topic.
+/// What nodes that aren't made yet need of the topic.
 #[derive(Drop)]
 pub(crate) struct TopicHandles<N: FeedName<Item, Shared>, S: Copies<Item, Shared, N>> {
-    /// One a worker.
+    /// One for each worker.
     pub(crate) passes: Vec<Pass<N>>,
-    /// One a node.
+    /// One for each node.
     pub(crate) readers: Vec<FeedReader<Item, Shared, N, S>>,
     // The topic began with a floor no higher than its next offset.
     pub(crate) ghost low: { N.first.kept.floor ≤ N.first.next },
@@ -37,11 +37,12 @@ pub(crate) struct Parts<
     R: Wait + Drop,
 > {
     pub(crate) follower: Mutex<Follower<N, S, M, U, R>>,
-    /// In a `Mutex`, so that parts can be lent by `&`.
+    /// In a `Mutex`, so that the parts can be borrowed by `&`.
     pub(crate) views: Mutex<Vec<NodeView<M, U>>>,
 }
 
-/// What nodes are made with: what they share, the pen of the topic, and where they listen.
+/// What nodes are made with: what they share, the pen of the topic, and the sockets on which they
+/// listen.
 #[derive(Drop)]
 pub(crate) struct Resources<
     'a,
@@ -56,7 +57,8 @@ pub(crate) struct Resources<
     pub(crate) listeners: &'a [TcpListener],
 }
 
-/// Makes the feed, the follower and the views of the node of that number, if there is one.
+/// Makes the feed, the follower and the views of the node of that number; `None` if there is no
+/// such node.
 pub(crate) fn make_parts<
     N: FeedName<Item, Shared>,
     S: Copies<Item, Shared, N>,
@@ -109,7 +111,7 @@ fn make_follower<
     Ok(Follower::new(topic, Box::new(alloc, out)?))
 }
 
-/// Reads the topic, and makes so many views of what was read.
+/// Reads the topic, and makes `workers` views of what was read.
 fn begin_to_follow<
     N: FeedName<Item, Shared>,
     S: Copies<Item, Shared, N>,
@@ -121,10 +123,10 @@ fn begin_to_follow<
     alloc: Global,
     workers: u32,
 ) -> Result<Vec<NodeView<M, U>>, ServiceError> {
-    // What the topic begins with is there before the first request is.
+    // What the topic begins with is shown before the first request comes.
     follower.pull()?;
     follower.publish()?;
-    // Both copies have it, so that the first command costs what later ones do.
+    // Both copies have it, so that the first command costs as much as later ones.
     follower.catch_up_unshown();
     let mut views = Vec::new(alloc);
     for _worker in 0..workers {
@@ -136,7 +138,7 @@ fn begin_to_follow<
 /// A desk that wakes the other nodes.
 pub(crate) type NamedDesk<'a, N, S, K, M, U, R, G> = NodeDesk<'a, N, S, K, M, U, R, G, Others<'a>>;
 
-/// A desk of a node for each view, with a judge of its own.
+/// Makes a desk for each view, with a judge of its own.
 pub(crate) fn make_desks<
     'a,
     'x: 'a,
@@ -176,7 +178,7 @@ pub(crate) fn make_desks<
     Ok(desks)
 }
 
-/// The server of the node of that number, which isn't opened yet.
+/// Makes the server of the node of that number. It isn't opened yet.
 pub(crate) fn make_server<
     'a,
     'x: 'a,

@@ -9,8 +9,7 @@ use std::sync::Wait;
 use std::thread::{self, Scope, Threads};
 use std::time::Clock;
 
-/// Serves: starts the threads of the nodes that are there, lets them begin, and returns once all have
-/// ended.
+/// Starts the threads of all nodes, lets them begin, and returns once all have ended.
 pub(crate) fn serve<
     's,
     T1: Send + Drop + 's,
@@ -56,7 +55,7 @@ pub(crate) fn serve<
     )
 }
 
-/// Starts the threads of the nodes that are there, the first node's first.
+/// Starts the threads of all nodes, in the order of their numbers.
 fn start_nodes<
     's,
     X,
@@ -86,7 +85,7 @@ fn start_nodes<
     start_node(scope, common, third, third_desks)
 }
 
-/// Starts a node's threads, if it is there.
+/// Starts a node's threads; does nothing if there is no such node.
 fn start_node<
     's,
     X,

@@ -5,16 +5,16 @@ use thiserror::Error;
 /// Why a compaction to a floor isn't published.
 #[derive(Clone, Copy, Debug, PartialEq, Eq, Error)]
 pub enum CompactError {
-    /// The floor is lower than that of the kept set, which is this one. Nothing was done.
+    /// The floor is below that of the kept set (the number here). Nothing has changed.
     #[error("below the floor {0}")]
     FloorBelow(u64),
-    /// The floor is ahead of the next offset, which is this one. Nothing was done.
+    /// The floor is ahead of the next offset (the number here). Nothing has changed.
     #[error("ahead of the next offset {0}")]
     FloorAhead(u64),
-    /// Memory was refused: what is pending, or the compaction, isn't settled.
+    /// Memory was refused: either what was pending, or the compaction, is still pending.
     #[error("out of memory")]
     OutOfMemory,
-    /// The keep lost a batch, which stays pending for good. Nothing was done.
+    /// The keep lost a batch, which stays pending for good. Nothing has changed.
     #[error("a batch is lost")]
     Lost,
 }

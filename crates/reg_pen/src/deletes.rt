@@ -1,4 +1,4 @@
-// What a pen counts of its list, to tell whether it pays to forget deletes.
+// What a pen counts of its list to decide when old deletes are dropped.
 ghost use Rattle.std.specs.Prelude.{◌≡◌, IfOk};
 ghost use Rattle.reg_set.specs.Records.{records_of};
 ghost use Rattle.reg_shared.specs.Held.{base_of};
@@ -10,28 +10,28 @@ use reg_shared::Shared;
 use reg_topic::Item;
 use std::alloc::AllocError;
 
-/// How many deletes have to be due, at least, before they are many.
+/// At least this many deletes have to be due before they are many.
 const MANY: u64 = 1_024;
 
-/// Of how many records that are kept one has to be a delete that is due, before these are many.
+/// Deletes that are due are many if they are more than one in `PART` kept records.
 const PART: u64 = 4;
 
-/// What is counted of a list of items over a topic. Each count goes up to 2^64-1.
+/// Counts of a topic's list of items. Each count goes up to 2^64-1.
 #[derive(Clone, Copy, Debug, PartialEq, Eq)]
 pub struct Deletes {
     /// The floor of the kept set.
     pub floor: u64,
-    /// How many records without a value are there since the floor rose, from before the last compaction. Those that
-    /// the topic began with count from its first compaction on.
+    /// How many deletes (records without a value) were written since the floor last rose and before
+    /// the last compaction. Those that the topic began with count from its first compaction on.
     pub due: u64,
-    /// How many since that compaction.
+    /// How many deletes were written since the last compaction.
     pub new: u64,
-    /// How many records the topic began with and were published, without those that compactions dropped.
+    /// How many records the topic began with or published, without those that compactions dropped.
     pub kept: u64,
 }
 
 impl Deletes {
-    /// What is counted of what a topic begins with. The only error is out of memory.
+    /// Counts what a topic begins with. The only error is out of memory.
     pub(crate) fn at_first(shared: &Shared) -> Result<Deletes, AllocError>
         ensures { IfOk result (λ deletes. deletes ≡ deletes_at_first (base_of shared.now)) }
     {
@@ -44,7 +44,7 @@ impl Deletes {
         })
     }
 
-    /// With one item more.
+    /// Returns the counts after one more item.
     pub(crate) fn after(self, item: &Item) -> Deletes
         ensures { result ≡ deletes_after self item.now }
     {
@@ -74,7 +74,8 @@ impl Deletes {
         }
     }
 
-    /// Whether so many are due that it pays to forget them: each node is rebased then, which costs what is kept.
+    /// Returns whether so many deletes are due that dropping them pays off: it rebases each node,
+    /// which costs as much as all kept records.
     pub(crate) fn are_many(self) -> bool
         ensures { result ≡ are_many self }
     {
@@ -82,7 +83,7 @@ impl Deletes {
     }
 }
 
-/// Copies of the kept records, each once. The only error is out of memory.
+/// Copies the kept records, each once. The only error is out of memory.
 fn listed(shared: &Shared) -> Result<Vec<Record>, AllocError>
     ensures { IfOk result (λ kept. kept.items ≡ records_of shared.now.kept.records) }
 {
@@ -92,7 +93,7 @@ fn listed(shared: &Shared) -> Result<Vec<Record>, AllocError>
     Ok(found)
 }
 
-/// How many of the records have no value.
+/// Counts the records that have no value.
 fn count_deletes(records: &[Record]) -> u64
     ensures { result ≡ deletes_in records.now }
 {

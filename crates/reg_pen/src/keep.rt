@@ -1,4 +1,4 @@
-// What keeps batches beside the process.
+// What makes batches durable outside the process.
 ghost use Rattle.std.specs.Prelude.{◌≡◌, List};
 ghost use Rattle.reg_records.specs.declared.log.Log.{Log};
 ghost use Rattle.reg_records.specs.declared.record.Record.{Record};
@@ -8,21 +8,21 @@ ghost use Rattle.reg_pen.specs.declared.keep.Kept.{Kept};
 use reg_fold::{Refusal, StoreFault};
 use reg_records::Record;
 
-/// Why a batch isn't kept. Nothing of it is.
+/// Why a batch isn't kept. No part of it is.
 #[derive(Clone, Copy, Debug, PartialEq, Eq)]
 pub enum Lack {
     /// Memory was refused.
     Memory,
-    /// No number is left for what it writes.
+    /// No offset is left for what it writes.
     Numbers,
-    /// Somebody else's batch came first, so what wrote this one has to be decided anew.
+    /// Somebody else's batch came first, so the command has to be decided again.
     Overtaken,
-    /// The store that has the log declined it, or can't be reached.
+    /// The store that has the log declined the batch, or can't be reached.
     Store,
 }
 
 impl Lack {
-    /// The refusal that is told of it.
+    /// Returns the refusal that the client gets.
     pub fn refusal(self) -> Refusal
         ensures { result ≡ refusal_of self }
     {
@@ -35,34 +35,36 @@ impl Lack {
     }
 }
 
-/// What became of a batch that was lent.
+/// What became of a batch that was lent to a keep.
 #[derive(Clone, Copy, Debug, PartialEq, Eq)]
 pub enum Kept {
     /// It is kept.
     Taken,
-    /// Nothing of it is kept, for that reason.
+    /// No part of it is kept, for this reason.
     Declined(Lack),
-    /// Whether it is kept isn't known, so it stays pending for good.
+    /// It isn't known whether it is kept, so it stays pending for good.
     Lost,
-    /// Whether it stands in the log can't be known now. If it does, it is told like a batch that somebody else wrote.
+    /// It can't be known now whether the log has it. If it does, it will be told like a batch that
+    /// somebody else wrote.
     Unknown,
 }
 
-/// What keeps a topic's batches beside the process. Each batch is lent to it before it is published.
+/// What makes a topic's batches durable, for example a file or a store. Each batch is lent to it
+/// before it is published.
 pub trait Keep {
-    // Its state before, the batch, what became of it, its state after.
+    // The state before, the batch, what became of it, the state after.
     ghost keeps: { Self → List Record → Kept → Self → Type 0 };
 
-    // That it stands at the end of that log: what it keeps is the log, and batches join it there. Of a keep that keeps
-    // nothing this says nothing.
+    // That the keep is at the end of this log: what it keeps is the log, and batches are appended
+    // there. For a keep that keeps nothing this says nothing.
     ghost stands: { Self → Log → Type 0 } = { λ _ _. Unit {0} };
 
-    /// Keeps the batch, all of it or nothing.
+    /// Keeps the whole batch or no part of it.
     fn keep(&mut self, batch: &[Record]) -> Kept
         ensures { keeps self.old batch.now result self.new };
 }
 
-/// Keeps nothing: what is published ends with the process. It takes every batch.
+/// A keep that stores nothing and accepts every batch: what is published ends with the process.
 #[derive(Drop)]
 pub struct MemoryAlone;
 

@@ -1,4 +1,4 @@
-// A log, and the keep that stands at its end.
+// A log with the keep at its end.
 ghost use Rattle.std.specs.Prelude.{◌≡◌};
 
 use crate::keep::Keep;
@@ -6,7 +6,7 @@ use crate::telling::{Tell, Told};
 use reg_records::Log;
 use std::marker::Model;
 
-/// A log, and the keep that stands at its end. They can't be parted: a pen is opened over both.
+/// A log with the keep at its end. They can't be taken apart: a pen is opened over both.
 #[derive(Drop)]
 pub struct KeptLog<K: Keep + Drop> {
     pub(crate) log: Log,
@@ -24,7 +24,7 @@ impl<K: Keep + Drop> Model for KeptLog<K> {
 }
 
 impl<K: Keep + Drop> KeptLog<K> {
-    /// A log with a keep that stands at its end.
+    /// Puts a log and a keep together. The keep has to be at the log's end.
     pub fn new(log: Log, keep: K) -> KeptLog<K>
         requires { K.stands keep log }
         ensures { result ≡ record { log = log; keep = keep } }
@@ -32,12 +32,14 @@ impl<K: Keep + Drop> KeptLog<K> {
         KeptLog { log, keep }
     }
 
+    /// Returns the log.
     pub fn log(&self) -> &Log
         ensures { result.now ≡ self.now.log }
     {
         &self.log
     }
 
+    /// Returns the keep.
     pub fn keep(&self) -> &K
         ensures same { result.now ≡ self.now.keep }
         ensures stands { K.stands self.now.keep self.now.log }
@@ -45,7 +47,7 @@ impl<K: Keep + Drop> KeptLog<K> {
         &self.keep
     }
 
-    /// The same log and keep, with what is told what becomes of each batch.
+    /// Returns the same log and keep, with a `teller` that is told what becomes of each batch.
     pub fn telling<T: Tell<K> + Drop>(self, teller: T) -> KeptLog<Told<K, T>>
         ensures log { result.log ≡ self.log }
         ensures keep { result.keep.keep ≡ self.keep }

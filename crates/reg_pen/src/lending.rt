@@ -1,11 +1,11 @@
-// What is done with a keep that is lent.
+// Work on a keep that a pen lends.
 
-/// What is done with a keep that a pen lends.
+/// Work on a keep that a pen lends.
 pub trait WithKeep<K> {
-    // Its state and the keep before, and both after.
+    // The worker's state and the keep before, and both after.
     ghost does: { Self → K → Self → K → Type 0 };
 
-    /// Does it.
+    /// Does the work.
     fn with_keep(&mut self, keep: &mut K)
         ensures { does self.old keep.old self.new keep.new };
 }

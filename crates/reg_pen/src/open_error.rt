@@ -8,11 +8,11 @@ use std::fmt;
 /// Why a pen isn't opened.
 #[derive(Clone, Copy, Debug, PartialEq, Eq)]
 pub enum OpenError {
-    /// A topic can't begin with the log, or memory was refused.
+    /// The log can't begin a topic, or memory was refused.
     Adopt(AdoptError),
-    /// The keep declined the mark of ids that the log owes, for that reason: nothing of it is kept.
+    /// The keep declined the id mark that the log owes, for this reason. No part of it is kept.
     Declined(Lack),
-    /// Whether that mark is kept isn't known.
+    /// It isn't known whether that mark is kept.
     Lost,
 }
 

@@ -4,7 +4,7 @@ ghost use Rattle.reg_pen.specs.Pen.{counted};
 
 use std::marker::PhantomData;
 
-/// The right to submit commands to the pen of that feed. It counts the submits that it was lent to.
+/// The right to submit commands to the pen of a feed. It counts the submits that it was used for.
 #[derive(Drop)]
 pub struct Pass<N> {
     pub(crate) submits: u64,
@@ -21,7 +21,7 @@ impl<N> Pass<N> {
         }
     }
 
-    /// How many submits it was lent to, refused ones too.
+    /// Returns how many submits it was used for, refused ones too; up to `u64::MAX`.
     pub fn submits(&self) -> u64
         ensures { result ≡ self.now.submits }
     {

@@ -1,4 +1,4 @@
-// The owner of the topic's writer. It stands in a `Mutex`.
+// The single writer of a topic. Callers put it in a `Mutex`.
 ghost use Rattle.std.specs.Prelude.{◌≡◌, ◌≢◌, ◌⊎◌, ◌+◌, ◌<◌, ◌≤◌, ◌^◌, ◌++◌, ◌∷◌, [], false, IfErr, IfOk, MatchBool, None, OnErr, OnOk, Some, map, option_to_list, replicate, true};
 ghost use mathlib.Core.List.{IsPrefix};
 ghost use Rattle.std.specs.FinSet.{from_list};
@@ -42,23 +42,25 @@ use std::sync::Wait;
 /// What isn't published yet.
 #[derive(Clone, Copy, Debug, PartialEq, Eq)]
 pub enum Pending {
+    /// Nothing.
     Nothing,
-    /// A batch, whose first record has that offset.
+    /// A batch that the keep has taken; its first record has this offset.
     Batch(u64),
-    /// A batch that the keep lost. It is never published.
+    /// A batch that the keep lost; its first record has this offset. It is never published.
     Lost(u64),
+    /// A compaction.
     Compaction,
 }
 
-/// A reply, and the published list after it.
+/// A reply, with the published list that it belongs to.
 #[derive(Drop)]
 pub struct Submitted<N: FeedName<Item, Shared>> {
     pub reply: Reply,
     pub seen: Seen<Item, Shared, N>,
 }
 
-/// The topic's writer, with its keep. The published list is lawful, and at most one item is pending,
-/// which may follow on it.
+/// The single writer of a topic's log, with its keep. The published list is lawful, and at most one
+/// item is pending, which may follow on it.
 #[derive(Drop)]
 pub struct Pen<
     N: FeedName<Item, Shared>,
@@ -78,7 +80,7 @@ pub struct Pen<
     // The kept set's floor and the next offset, with what is pending.
     floor: u64,
     next: u64,
-    // What is counted of the list with what is pending.
+    // The counts of the list with what is pending.
     deletes: Deletes,
 }
 
@@ -112,12 +114,15 @@ pub struct Opened<
     pub passes: Vec<Pass<N>>,
 }
 
-/// Opens a pen over a log, which has to be adopted, with the keep at its end, so many passes and places for
-/// so many readers.
+/// Opens a pen over a log with the keep at its end. Makes `passes` passes, and room for `readers`
+/// readers.
 ///
-/// The topic begins with the log, which isn't lent to the keep, and with the mark of ids that the log
-/// owes, which is: where the keep doesn't take it, no pen is opened. Both are there before anything is
-/// published, and `batches` counts neither.
+/// The topic begins with the log, which the keep already has, and with the id mark that the log
+/// owes, which is lent to the keep: if the keep doesn't take it, no pen is opened. Both are there
+/// before anything is published, and `batches` counts neither.
+///
+/// Refused if the log can't begin a topic, if the keep declines or loses the mark, or if memory is
+/// refused.
 pub fn open<N: FeedName<Item, Shared>, K: Keep + Drop, R: Wait + Drop>(
     rt: R,
     alloc: Global,
@@ -139,7 +144,7 @@ pub fn open<N: FeedName<Item, Shared>, K: Keep + Drop, R: Wait + Drop>(
     open_begun::<N, K, R>(rt, alloc, list, kept, begun, passes, readers)
 }
 
-/// Opens a pen as [`open`] does, over a log of which it is known already what a topic begins with.
+/// Opens a pen as [`open`] does, over a log whose first state `begun` is already made.
 pub fn open_begun<N: FeedName<Item, Shared>, K: Keep + Drop, R: Wait + Drop>(
     rt: R,
     alloc: Global,
@@ -185,7 +190,7 @@ pub fn open_begun<N: FeedName<Item, Shared>, K: Keep + Drop, R: Wait + Drop>(
     Ok(Opened { pen, passes })
 }
 
-/// Lends the keep what a topic begins with beside its log, if there is something.
+/// Lends the keep the records that a topic begins with beside its log, if there are any.
 fn lend_due<K: Keep>(keep: &mut K, due: &[Record]) -> Result<(), OpenError>
     ensures taken { OnOk result (KeepsDue K.keeps keep.old due.now keep.new) }
     ensures refused { IfErr result (IsKeepRefusal K.keeps keep.old due.now) }
@@ -216,8 +221,11 @@ impl<N: FeedName<Item, Shared>, S: Copies<Item, Shared, N>, K: Keep + Drop, R: W
     K,
     R,
 > {
-    /// Does a command, or refuses it. A pending item is settled first; where that is refused again, or
-    /// where the keep lost it, nothing changes. `since` is the caller's last front.
+    /// Carries out a command, or refuses it. A pending item is published first; if that is refused
+    /// again, or if the keep lost it, nothing changes. `since` is the prefix that the caller saw
+    /// last: if the published list doesn't begin with it, the command is refused for memory.
+    /// `judged` is the command's judgement, if there is one. The list in the result is the one
+    /// published afterwards.
     #[tactic(auto, using(crate::proofs::Prefixes::since_still))]
     pub fn submit(
         &mut self,
@@ -246,7 +254,7 @@ impl<N: FeedName<Item, Shared>, S: Copies<Item, Shared, N>, K: Keep + Drop, R: W
         }
     }
 
-    /// How many batches were published, without what the topic began with. Takes no memory.
+    /// Returns how many batches were published, without what the topic began with. Takes no memory.
     pub fn batches(&self) -> u64
         ensures count { result ≡ batches self.now.published }
         ensures kept { IsPen (base_of N.first) self.now.published self.now.pending }
@@ -254,8 +262,8 @@ impl<N: FeedName<Item, Shared>, S: Copies<Item, Shared, N>, K: Keep + Drop, R: W
         self.committed
     }
 
-    /// A registry that gives the same as the one over the published log. A command is decided by it where
-    /// nothing is pending. Takes no memory.
+    /// Returns a registry that answers as the one over the published log does. If nothing is
+    /// pending, the next command is decided by it. Takes no memory.
     pub fn registry(&self) -> &Registry
         ensures { GiveAlike result.now (registry_of (topic_at N.first self.now.published)) }
     {
@@ -264,8 +272,8 @@ impl<N: FeedName<Item, Shared>, S: Copies<Item, Shared, N>, K: Keep + Drop, R: W
         self.writer.value().registry()
     }
 
-    /// What the next offset was at the last compaction that is published; where there is none, the floor
-    /// that the topic began with. Takes no memory.
+    /// Returns what the next offset was at the last published compaction, or the floor that the
+    /// topic began with if there was none. Takes no memory.
     pub fn compacted(&self) -> u64
         ensures { result ≡ (topic_at N.first self.now.published).compacted }
     {
@@ -273,7 +281,7 @@ impl<N: FeedName<Item, Shared>, S: Copies<Item, Shared, N>, K: Keep + Drop, R: W
         self.writer.value().compacted()
     }
 
-    /// The floor of the published kept set. Takes no memory.
+    /// Returns the floor of the published kept set. Takes no memory.
     pub fn floor(&self) -> u64
         ensures { result ≡ (topic_at N.first self.now.published).kept.floor }
     {
@@ -281,8 +289,9 @@ impl<N: FeedName<Item, Shared>, S: Copies<Item, Shared, N>, K: Keep + Drop, R: W
         self.writer.value().floor()
     }
 
-    /// The floor to which `submit_and_compact` compacts: what the next offset was at the last compaction, where
-    /// many deletes are due, else the floor of the published kept set. Takes no memory.
+    /// Returns the floor to which [`Pen::submit_and_compact`] compacts: if many deletes are due,
+    /// what the next offset was at the last compaction, else the floor of the published kept set.
+    /// Takes no memory.
     pub fn floor_due(&self) -> u64
         ensures { result ≡ floor_due (base_of N.first) self.now }
     {
@@ -292,13 +301,14 @@ impl<N: FeedName<Item, Shared>, S: Copies<Item, Shared, N>, K: Keep + Drop, R: W
         self.floor()
     }
 
-    /// Publishes what is pending, and then a compaction to that floor, which isn't lent to the keep: it
-    /// leaves the last record of each key, and nothing of a key whose last record deletes it below the
-    /// floor.
+    /// Publishes what is pending, and then a compaction to `floor`. It keeps the last record of
+    /// each key, and nothing of a key whose last record deletes it below the floor. The keep isn't
+    /// told.
     ///
-    /// A floor that is below that of the kept set, or ahead of the next offset, is refused with nothing
-    /// changed, where what is pending counts already. It is `Lost` where the keep lost a batch, with nothing
-    /// changed. Where memory is refused at most what was pending is published, and the compaction may be pending.
+    /// A floor that is below that of the kept set or ahead of the next offset, with what is
+    /// pending, is refused and nothing has changed. `Lost` if the keep lost a batch; nothing has
+    /// changed. If memory is refused, what was pending may be published, and the compaction may be
+    /// pending.
     #[tactic(auto, using(crate::proofs::Prefixes::grown, crate::proofs::Prefixes::prefix_self, crate::proofs::Prefixes::prefix_trans))]
     pub fn compact_to(&mut self, floor: u64) -> Result<(), CompactError>
         ensures compacted { OnOk result (Compacts (base_of N.first) floor self.old self.new) }
@@ -315,8 +325,8 @@ impl<N: FeedName<Item, Shared>, S: Copies<Item, Shared, N>, K: Keep + Drop, R: W
         Ok(self.drop_to(floor)?)
     }
 
-    /// Compacts as `compact_to` does, to the floor that the kept set has with what is pending, which is never
-    /// refused.
+    /// Compacts as [`Pen::compact_to`] does, to the floor that the kept set has with what is
+    /// pending. This floor is never refused.
     pub fn compact(&mut self) -> Result<(), CompactError>
         ensures compacted { OnOk result (Compacts (base_of N.first) (with_pending (base_of N.first) self.old).kept.floor self.old self.new) }
         ensures refused { IfErr result (λ error. IsUnsettled (base_of N.first) (with_pending (base_of N.first) self.old).kept.floor self.old error self.new) }
@@ -327,7 +337,7 @@ impl<N: FeedName<Item, Shared>, S: Copies<Item, Shared, N>, K: Keep + Drop, R: W
         self.compact_to(floor)
     }
 
-    /// Whether the floor may be set once what is pending is published.
+    /// Checks that the floor may be set once what is pending is published.
     fn may_set(&self, floor: u64) -> Result<(), CompactError>
         ensures may { OnOk result (MaySetFloor (with_pending (base_of N.first) self.now) floor) }
         ensures refused { IfErr result (λ error. IsCompactRefusal (base_of N.first) floor self.now error self.now) }
@@ -341,8 +351,8 @@ impl<N: FeedName<Item, Shared>, S: Copies<Item, Shared, N>, K: Keep + Drop, R: W
         Ok(())
     }
 
-    /// A reader of the topic's list that has seen nothing, from which a node's follower takes. It may
-    /// be refused at any call.
+    /// Makes a reader of the topic's list that has seen nothing; the follower of a node takes from
+    /// it. It is refused if no place for a reader is left.
     pub fn reader(&mut self) -> Result<FeedReader<Item, Shared, N, S>, NoPlace>
         ensures new { IfOk result (λ r. r ≡ []) }
         ensures same { self.new ≡ self.old }
@@ -350,8 +360,8 @@ impl<N: FeedName<Item, Shared>, S: Copies<Item, Shared, N>, K: Keep + Drop, R: W
         self.writer.reader()
     }
 
-    /// Whoever saw or learnt of a list of the topic saw what this pen published, or a beginning of it: no batch that is pending,
-    /// declined or lost. The clauses of the pen say when that list grows.
+    /// States that every list that anybody saw or learnt of is a prefix of what this pen has
+    /// published: nobody saw a batch that is pending, declined or lost.
     pub fn covers(&mut self, seen: &Seen<Item, Shared, N>)
         ensures begins { IsPrefix seen.now self.old.published }
         ensures same { self.new ≡ self.old }
@@ -359,13 +369,14 @@ impl<N: FeedName<Item, Shared>, S: Copies<Item, Shared, N>, K: Keep + Drop, R: W
         self.writer.covers(seen);
     }
 
+    /// Returns the keep.
     pub fn keep(&self) -> &K
         ensures { result.now ≡ self.now.keep }
     {
         &self.keep
     }
 
-    /// Lends the keep, while nothing is submitted. Nothing else of the pen changes.
+    /// Lends the keep to `doing`, while nothing is submitted. Nothing else of the pen changes.
     pub fn lend_keep<D: WithKeep<K>>(&mut self, doing: &mut D)
         ensures done { D.does doing.old self.old.keep doing.new self.new.keep }
         ensures same { self.new ≡ record self.old { keep = self.new.keep } }
@@ -373,7 +384,7 @@ impl<N: FeedName<Item, Shared>, S: Copies<Item, Shared, N>, K: Keep + Drop, R: W
         doing.with_keep(&mut self.keep);
     }
 
-    /// Publishes a compaction to a floor that may be set, where nothing is pending.
+    /// Publishes a compaction to a floor that may be set; nothing is pending.
     #[tactic(auto, using(crate::proofs::Prefixes::grown, crate::proofs::Prefixes::prefix_self))]
     fn drop_to(&mut self, floor: u64) -> Result<(), AllocError>
         requires clear { IsClear self.old }
@@ -390,7 +401,7 @@ impl<N: FeedName<Item, Shared>, S: Copies<Item, Shared, N>, K: Keep + Drop, R: W
         Ok(())
     }
 
-    /// The compaction to a floor that may be set.
+    /// Makes the compaction to a floor that may be set. The only error is out of memory.
     fn compaction_to(&self, floor: u64) -> Result<Compaction, AllocError>
         requires { MaySetFloor (topic_at N.first self.now.published) floor }
         ensures to { IfOk result (λ compaction. CompactsTo (topic_at N.first self.now.published) compaction) }
@@ -401,7 +412,8 @@ impl<N: FeedName<Item, Shared>, S: Copies<Item, Shared, N>, K: Keep + Drop, R: W
         Ok(Compaction { floor, dropped })
     }
 
-    /// Whether the published list begins with the front. If not, the front is longer.
+    /// Returns whether the published list begins with the prefix `since`. If not, the prefix is
+    /// longer than the list.
     fn has(&self, since: Option<&Seen<Item, Shared, N>>) -> bool
         ensures { MatchBool result (IsBehind since.entry self.now.published) (IsAhead since.entry self.now.published) }
     {
@@ -411,7 +423,7 @@ impl<N: FeedName<Item, Shared>, S: Copies<Item, Shared, N>, K: Keep + Drop, R: W
         }
     }
 
-    /// Settles what is pending, and then does a command.
+    /// Publishes what is pending, and then carries out a command.
     #[tactic(auto, using(crate::proofs::Acting::still_pends, crate::proofs::Prefixes::grown, crate::proofs::Prefixes::prefix_self, crate::proofs::Prefixes::prefix_trans))]
     fn settle_and_act(&mut self, command: &Command, judged: Option<&Judged>) -> Reply
         ensures acts { (StillPends self.old.pending result × (self.new ≡ self.old)) ⊎ ((self.old.lost ≡ false) × Acts K.keeps (base_of N.first) (settled self.old) command.now result self.new) }
@@ -423,8 +435,8 @@ impl<N: FeedName<Item, Shared>, S: Copies<Item, Shared, N>, K: Keep + Drop, R: W
         self.act(command, judged)
     }
 
-    /// Publishes what is pending, if something is. `false` where memory is refused, or where the keep lost it; the
-    /// pen is then as it was.
+    /// Publishes what is pending, if anything is. Returns `false` if memory is refused, or if the
+    /// keep lost it; the pen hasn't changed then.
     pub fn settle(&mut self) -> bool
         ensures { MatchBool result ((self.old.lost ≡ false) × (self.new ≡ settled self.old)) ((self.new ≡ self.old) × (self.old.pending ≢ [])) }
     {
@@ -461,7 +473,7 @@ impl<N: FeedName<Item, Shared>, S: Copies<Item, Shared, N>, K: Keep + Drop, R: W
         self.pending = pending;
     }
 
-    /// What the command replies and writes, from the published log.
+    /// Decides what the command replies and writes, from the published log.
     fn decision(&self, command: &Command, judged: Option<&Judged>) -> Decision
         ensures { IsOutOfMemory result ⊎ IsStepAfter (base_of N.first) self.now.published command.now result.reply result.batch }
     {
@@ -478,7 +490,7 @@ impl<N: FeedName<Item, Shared>, S: Copies<Item, Shared, N>, K: Keep + Drop, R: W
         )
     }
 
-    /// Does a command, where nothing is pending.
+    /// Carries out a command; nothing is pending.
     #[tactic(auto, using(crate::proofs::Acting::may_commit, crate::proofs::Acting::lends, crate::proofs::Acting::nothing_written, crate::proofs::Prefixes::prefix_self))]
     fn act(&mut self, command: &Command, judged: Option<&Judged>) -> Reply
         requires { IsClear self.old }
@@ -489,14 +501,14 @@ impl<N: FeedName<Item, Shared>, S: Copies<Item, Shared, N>, K: Keep + Drop, R: W
         let Some(first) = first_offset(&batch) else {
             return reply;
         };
-        // After the batch is lent nothing may be refused memory until it is held.
+        // Once the keep has the batch, no memory may be needed until it is held.
         let Ok(command) = command.clone() else {
             return no_memory();
         };
         self.lend(Commit { command, batch }, first, reply)
     }
 
-    /// Lends a batch to the keep, and publishes it where it is taken.
+    /// Lends a batch to the keep, and publishes it if the keep takes it.
     #[tactic(auto, using(crate::proofs::Prefixes::grown, crate::proofs::Prefixes::prefix_self))]
     fn lend(&mut self, commit: Commit, first: u64, reply: Reply) -> Reply
         requires clear { IsClear self.old }
@@ -523,7 +535,7 @@ impl<N: FeedName<Item, Shared>, S: Copies<Item, Shared, N>, K: Keep + Drop, R: W
     }
 }
 
-/// The floor and the next offset after an item that may follow.
+/// Returns the floor and the next offset after an item.
 fn after(item: &Item, floor: u64, next: u64) -> (u64, u64)
     requires { EndsByLimit item.now next }
     ensures { result ≡ after item.now floor next }
@@ -534,8 +546,8 @@ fn after(item: &Item, floor: u64, next: u64) -> (u64, u64)
     }
 }
 
-/// Brings the held item to the writer, if there is one. `false` where memory is refused; all is then
-/// as it was.
+/// Hands the held item to the writer, if there is one. Returns `false` if memory is refused;
+/// nothing has changed then.
 fn hand_over<N: FeedName<Item, Shared>, S: Copies<Item, Shared, N>, R: Wait + Drop>(
     writer: &mut FeedWriter<Item, Shared, N, S, R>,
     held: &mut Option<Item>,
@@ -563,7 +575,7 @@ fn is_lost(pending: Pending) -> bool
     }
 }
 
-/// The reply where what is pending is refused again, or is lost.
+/// Returns the reply if what is pending is refused again or is lost.
 fn waiting(pending: Pending) -> Reply
     ensures { result ≡ reply_of pending }
 {
@@ -573,7 +585,8 @@ fn waiting(pending: Pending) -> Reply
     }
 }
 
-/// A count of batches, with the one that was pending, where a list has so many items.
+/// Returns the count of batches after the pending item is published; `items` is the length of the
+/// list then.
 fn with_batch(count: u64, pending: Pending, items: u64) -> u64
     requires { count + batches_in pending ≤ items }
     ensures { result ≡ count + batches_in pending }
@@ -584,7 +597,7 @@ fn with_batch(count: u64, pending: Pending, items: u64) -> u64
     }
 }
 
-/// The offset of the first record.
+/// Returns the offset of the first record.
 fn first_offset(batch: &Listed<Record>) -> Option<u64>
     ensures { IsFirst batch.now result }
 {

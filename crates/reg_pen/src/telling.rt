@@ -1,16 +1,16 @@
-// A keep whose answers are told.
+// A keep that reports what becomes of its batches.
 ghost use Rattle.std.specs.Prelude.{◌≡◌};
 
 use crate::keep::{Keep, Kept};
 use reg_records::Record;
 
-/// What is told what became of batches.
+/// What is told what becomes of batches.
 pub trait Tell<K> {
-    /// That became of the batch, and this is the keep then.
+    /// Called after each batch with the keep, the batch, and what became of it.
     fn tell(&mut self, keep: &K, batch: &[Record], kept: Kept);
 }
 
-/// A keep that does what another one does, and tells it.
+/// A keep that does what another one does, and tells `teller` the result.
 #[derive(Drop)]
 pub struct Told<K: Keep + Drop, T: Tell<K> + Drop> {
     pub(crate) keep: K,

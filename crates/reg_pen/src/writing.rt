@@ -1,4 +1,4 @@
-// What a submit does with the compaction that may follow on it.
+// A submit with the compaction that may follow it.
 ghost use Rattle.std.specs.Prelude.{◌≡◌};
 ghost use mathlib.Core.List.{IsPrefix};
 ghost use Rattle.reg_shared.specs.Held.{base_of};
@@ -16,7 +16,7 @@ use reg_shared::Shared;
 use reg_topic::Item;
 use std::sync::Wait;
 
-/// How many batches there are from one compaction to the next.
+/// A compaction follows every so many batches.
 const BATCHES: u64 = 64;
 
 impl<N: FeedName<Item, Shared>, S: Copies<Item, Shared, N>, K: Keep + Drop, R: Wait + Drop> Pen<
@@ -25,12 +25,12 @@ impl<N: FeedName<Item, Shared>, S: Copies<Item, Shared, N>, K: Keep + Drop, R: W
     K,
     R,
 > {
-    /// Does a command as `submit` does, once; where the count of batches reaches or passes a multiple of 64
-    /// by that, a compaction follows, whose refusal leaves the reply. The list that is told is the one before
-    /// the compaction.
+    /// Carries out a command as [`Pen::submit`] does. If the count of batches reaches or passes a
+    /// multiple of 64 by that, a compaction follows; if it is refused, the reply stays. The list in
+    /// the result is the one before the compaction.
     ///
-    /// The floor is what the next offset was at the compaction before, so that a delete is kept over one
-    /// compaction at least, where many deletes are due; else it stays.
+    /// If many deletes are due, the compaction's floor is what the next offset was at the
+    /// compaction before, so each delete survives at least one compaction. Else the floor stays.
     pub fn submit_and_compact(
         &mut self,
         pass: &mut Pass<N>,
