@@ -1,5 +1,5 @@
-// The laws of records that give the same. What is proved here costs nothing at run time: a function
-// that needs a law calls it.
+// The laws of records that answer alike. They cost nothing at run time: a function that needs a law
+// calls it.
 ghost use Rattle.reg_alike.specs.AnswerAlike.{AlikeAnswersAlike, CompactionsAnswerAlike};
 ghost use Rattle.reg_alike.specs.GiveAlike.{CompactionsGiveAlike, NullsGiveNothing, SameStandingGivesAlike};
 ghost use Rattle.reg_alike.specs.StepAlike.{CompactionsStepAlike, StepsAlike};
@@ -8,7 +8,8 @@ use reg_floored::compactions_keep_what_stands;
 use reg_leader::reg_fold::giving_alike_is_an_equivalence;
 use reg_leader::reg_set::{last_is_greatest, last_records_are_enough, records_are_ordered};
 
-/// Last records without a value give nothing: those that have one give the same alone.
+/// States that last records without a value don't matter: those that have one give the same answers
+/// alone.
 pub fn nulls_give_nothing()
     ensures { NullsGiveNothing }
 {
@@ -17,7 +18,8 @@ pub fn nulls_give_nothing()
     last_records_are_enough();
 }
 
-/// Two sets of records give the same where their last records that have a value are the same.
+/// States that two sets of records answer alike if their last records that have a value are the
+/// same.
 pub fn what_stands_gives_all()
     ensures { SameStandingGivesAlike }
 {
@@ -25,7 +27,7 @@ pub fn what_stands_gives_all()
     nulls_give_nothing();
 }
 
-/// A set gives the same as each of its compactions, at whatever floor.
+/// States that a set answers as each of its compactions does, at any floor.
 pub fn compactions_give_alike()
     ensures { CompactionsGiveAlike }
 {
@@ -33,12 +35,14 @@ pub fn compactions_give_alike()
     what_stands_gives_all();
 }
 
-/// Sets of last records that give the same have the same answer to each query, to the byte.
+/// States that sets of last records that answer alike give the same answer to each query, to the
+/// byte.
 pub fn alike_answers_alike()
     ensures { AlikeAnswersAlike }
 {}
 
-/// Each query has the same answer over a set and over each of its compactions, at whatever floor.
+/// States that each query has the same answer over a set and over each of its compactions, at any
+/// floor.
 pub fn compactions_answer_alike()
     ensures { CompactionsAnswerAlike }
 {
@@ -46,14 +50,14 @@ pub fn compactions_answer_alike()
     alike_answers_alike();
 }
 
-/// Over sets of last records that give the same, each command has the same reply and writes the same
-/// batch.
+/// States that over sets of last records that answer alike, each command has the same reply and
+/// writes the same batch.
 pub fn alike_steps_alike()
     ensures { StepsAlike }
 {}
 
-/// Over a set and each of its compactions, at whatever floor, each command has the same reply and writes
-/// the same batch.
+/// States that over a set and over each of its compactions, at any floor, each command has the same
+/// reply and writes the same batch.
 pub fn compactions_step_alike()
     ensures { CompactionsStepAlike }
 {

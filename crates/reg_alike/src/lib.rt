@@ -1,5 +1,18 @@
-//! Sets of last records that give the same: they answer queries and take commands alike. A compaction
-//! may lack last records without a value, and gives the same.
+//! When two sets of records answer alike: laws, no types.
+//!
+//! A registry answers from the last record of each key. A compaction may lack records that are
+//! superseded, and deletes below its floor, so it isn't the same set as the log; but it *gives* the
+//! same: the same entries, levels and modes.
+//!
+//! One idea: what counts are the last records that have a value ([`what_stands_gives_all`]). A
+//! compaction keeps these, so it gives what the log does ([`compactions_give_alike`]).
+//!
+//! Two theorems follow: sets that give alike answer each query alike, to the byte
+//! ([`compactions_answer_alike`]), and each command has the same reply and writes the same batch
+//! ([`compactions_step_alike`]).
+//!
+//! It doesn't say which records a compaction may drop; `reg_floored` does. It has no code that runs
+//! and no tests of its own; `world_cases` runs compacted nodes beside the log.
 #![tactic(auto)]
 
 mod laws;

@@ -1,4 +1,4 @@
-// A start over the log of a file that isn't written.
+// Reading a log from a file that won't be written.
 ghost use Rattle.std.specs.Prelude.{◌≡◌, Ok, IfOk, OnOk};
 ghost use Rattle.reg_records.specs.Log.{IsLogOf};
 ghost use Rattle.reg_journal.specs.Disk.{Only};
@@ -10,8 +10,9 @@ use reg_pen::KeptLog;
 use reg_records::{Device, read_log};
 use std::alloc::Global;
 
-/// Reads the log of a file, with a keep that is closed: nothing is written to the file, neither now nor later. What it has read is on
-/// the disk.
+/// Reads the log of a file, with a keep that is closed: nothing is ever written to the file. What
+/// was read is on the disk, since the file is synced first. Fails if the file can't be synced or
+/// read, if it isn't a log, or if memory is refused.
 pub fn start_closed<D: Renewable + Drop>(
     alloc: Global,
     disk: &mut D,

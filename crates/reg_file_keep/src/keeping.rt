@@ -15,10 +15,10 @@ use reg_records::{Key, Record, has_line};
 use std::alloc::Global;
 use std::marker::Model;
 
-/// A keep over a journal: a batch that is taken stands in the file, and is on the disk. The file is compacted where
-/// many of its lines would go: those that others supersede, and deletes that were there before the compaction before.
-/// Contracts see the journal, to which floor the file is compacted next, its next offset, and what became of the last
-/// compaction.
+/// A keep (what makes a pen's batches durable) over a log in a file: a batch that it takes is
+/// appended to the file and is on the disk. The file is compacted if that drops many of its lines:
+/// superseded records, and deletes older than the compaction before. Contracts see the journal, the
+/// floor of the next compaction, the next offset, and whether the last compaction failed.
 #[derive(Drop)]
 pub struct FileKeep<D: Renewable + Drop> {
     alloc: Global,
@@ -40,8 +40,8 @@ impl<D: Renewable + Drop> Model for FileKeep<D> {
 }
 
 impl<D: Renewable + Drop> FileKeep<D> {
-    /// A keep over a journal whose file has that floor and that next offset, and of whose lines that is known. Only `start`
-    /// makes one.
+    /// Makes a keep over a journal whose file has this floor and this next offset; `room` is what
+    /// is known of its lines. Only [`crate::start_file_keep`] makes one.
     pub(crate) fn new(
         alloc: Global,
         journal: Journal<D>,
@@ -60,14 +60,14 @@ impl<D: Renewable + Drop> FileKeep<D> {
         }
     }
 
-    /// The journal.
+    /// Returns the journal.
     pub fn journal(&self) -> &Journal<D>
         ensures { result.now ≡ self.now.journal }
     {
         &self.journal
     }
 
-    /// The disk, for whoever goes on with it.
+    /// Gives back the disk.
     pub(crate) fn into_disk(self) -> D
         ensures { result ≡ self.journal.disk }
     {
@@ -79,15 +79,15 @@ impl<D: Renewable + Drop> FileKeep<D> {
         journal.into_disk()
     }
 
-    /// Why the file couldn't be compacted when that was tried last, if it couldn't.
+    /// Returns why the file couldn't be compacted at the last try; `None` if it could.
     pub fn compaction_fault(&self) -> Option<JournalCompactError>
         ensures { result ≡ self.now.fault }
     {
         self.upkeep.fault
     }
 
-    /// Compacts the file where that is due before a batch of so many lines is appended. A crash at any moment leaves a
-    /// file that says what it said, or a compaction of that.
+    /// Compacts the file if that is due before a batch of `lines` lines is appended. A crash at any
+    /// moment leaves a file that says what it said, or a compaction of that.
     pub(crate) fn make_room(&mut self, lines: u64)
         ensures room { self.old.journal.is_broken ≡ false → MakesRoom D.is_modelled D.seen D.faults D.renewals self.old self.new }
         ensures any_moment { D.is_modelled → self.old.journal.is_broken ≡ false → LeavesOnly D.moment D.left_since D.may_leave self.old.journal.disk self.new.journal.disk (says_compaction (said (D.seen self.old.journal.disk))) }
@@ -129,14 +129,16 @@ impl<D: Renewable + Drop> Keep for FileKeep<D> {
     }
 }
 
-/// How many lines are to stay free behind a batch: one, for the mark of ids that the next start may owe, but none behind that mark.
+/// Returns how many lines have to stay free after a batch: one, for the id mark that the next start
+/// may owe; none after that mark itself.
 fn free_behind(batch: &[Record]) -> u64
     ensures { result ≡ free_behind batch.now }
 {
     if is_mark(batch) { 0 } else { 1 }
 }
 
-/// Whether the batch is a mark of ids and nothing else, as a start may owe it. No command's batch is.
+/// Returns whether the batch is an id mark and nothing else, as a start may owe it. No command
+/// writes such a batch.
 pub(crate) fn is_mark(batch: &[Record]) -> bool
     ensures { result ≡ is_mark batch.now }
 {
@@ -146,28 +148,28 @@ pub(crate) fn is_mark(batch: &[Record]) -> bool
     }
 }
 
-/// Whether each record has a line and none is below the floor.
+/// Returns whether each record fits into a line and none is below the floor.
 fn can_stand(batch: &[Record], floor: u64) -> bool
     ensures { IsTrue result ↔ (All HasLine batch.now × All (λ r. floor ≤ r.offset) batch.now) }
 {
     have_lines(batch) && are_from(batch, floor)
 }
 
-/// Whether each record has a line.
+/// Returns whether each record fits into a line.
 fn have_lines(batch: &[Record]) -> bool
     ensures { IsTrue result ↔ All HasLine batch.now }
 {
     batch.iter().all(|given| has_line(given))
 }
 
-/// Whether no record is below the floor.
+/// Returns whether no record is below the floor.
 fn are_from(batch: &[Record], floor: u64) -> bool
     ensures { IsTrue result ↔ All (λ r. floor ≤ r.offset) batch.now }
 {
     batch.iter().all(|given| floor <= given.offset)
 }
 
-/// What became of a batch that isn't acknowledged.
+/// Returns what became of a batch that the journal didn't acknowledge.
 fn kept_of(error: AppendError) -> Kept
     ensures { result ≡ kept_of error }
 {

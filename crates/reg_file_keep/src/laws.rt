@@ -1,4 +1,4 @@
-// What a pen and its file say together.
+// What a pen and its file say together. The laws cost nothing at run time.
 ghost use Rattle.std.specs.Prelude.{◌≡◌, ◌++◌, List, [], ℕ, Ok, Option, Result, false};
 ghost use Rattle.std.specs.Borrow.{Bor};
 ghost use Rattle.reg_journal.specs.Disk.{Only};
@@ -25,9 +25,10 @@ use crate::log_keep::LogKeep;
 use reg_compaction::compactions_stand_for_logs;
 use reg_journal::{Renewable, batches_add_records};
 
-/// Where a pen is opened over a log and the keep that stands at its end, as `start` gives them, the file says a compaction of that log
-/// with what the topic begins with beside it: the mark of ids that the log owes, or nothing. So does what each crash leaves.
-/// The records that are said so are those of the topic that the pen begins with.
+/// States that when a pen is opened over a log and the keep at its end, as
+/// [`crate::start_file_keep`] returns them, the file says a compaction of that log with the id mark
+/// that the log owes, if any. So does what any crash leaves. These records are those that the pen's
+/// topic begins with.
 pub fn opens_keep_the_file<D: Renewable>()
     ensures file { D.is_modelled → (whole : Said) (base : Log) (old new : KeepState D)
         → old.journal.is_broken ≡ false
@@ -49,9 +50,9 @@ pub fn opens_keep_the_file<D: Renewable>()
     batches_add_records();
 }
 
-/// A file that says what a pen has published, and what is pending, up to a compaction, says so after each submit, and so
-/// does what each crash leaves from then on. Where a batch is lost, each crash leaves a file that says what is published,
-/// without that batch or with all of it.
+/// States that if a file says what its pen has published and what is pending, up to a compaction,
+/// it still does after each submit, and so does what any crash leaves from then on. If a batch is
+/// lost, any crash leaves a file that says what is published, without that batch or with all of it.
 pub fn submits_keep_the_file<D: Renewable>()
     ensures { D.is_modelled → (first : Result Said (ℕ × LogFault)) (base : Topic) (since : Option (Bor (List Item)))
         (old new : PenState (KeepState D)) (command : Command) (reply : Reply)
@@ -61,7 +62,8 @@ pub fn submits_keep_the_file<D: Renewable>()
     compactions_stand_for_logs();
 }
 
-/// Over a log whose keep is open, opening a pen and each submit do what they do over the keep of its file, and the keep stays open.
+/// States that over a log whose keep is open, opening a pen and each submit do what they do over
+/// the keep of its file, and the keep stays open.
 pub fn open_logs_keep_as_files<D: Renewable>()
     ensures opens { (old : KeepState D) (due : List Record) (new : LogKeep D)
         → KeepsDue (KeepsLog (KeepsFile D.is_modelled D.moment D.left_since D.may_leave D.seen D.faults D.renewals D.named)) (LogKeep.Open old) due new
@@ -74,7 +76,8 @@ pub fn open_logs_keep_as_files<D: Renewable>()
         × Submits (KeepsFile D.is_modelled D.moment D.left_since D.may_leave D.seen D.faults D.renewals D.named) base since (as_file old before) command reply (as_file new after) }
 {}
 
-/// A log whose keep is closed stays so, and its pen publishes nothing but what was pending: a command that writes is refused.
+/// States that a closed keep stays closed, and that its pen publishes nothing but what was pending:
+/// a command that writes is refused.
 pub fn closed_logs_take_no_command<D: Renewable>()
     ensures { (base : Topic) (since : Option (Bor (List Item))) (old new : PenState (LogKeep D)) (command : Command) (reply : Reply)
         → old.keep ≡ LogKeep.Closed

@@ -1,4 +1,4 @@
-// The keep of a log that is served.
+// The keep of a served log.
 ghost use Rattle.std.specs.Prelude.{◌≡◌};
 ghost use Rattle.reg_file_keep.specs.Keeping.{KeepsFile};
 ghost use Rattle.reg_file_keep.specs.LogKeep.{KeepsLog, closed_answer};
@@ -9,13 +9,14 @@ use reg_journal::Renewable;
 use reg_pen::{Keep, Kept, Lack};
 use reg_records::Record;
 
-/// The keep of a log that is served.
+/// The keep of a served log.
 #[derive(Drop)]
 pub enum LogKeep<D: Renewable + Drop> {
     /// Batches are kept in the log's file.
     Open(FileKeep<D>),
-    /// No command is done, since there was no room for what the start has to write first. The mark of ids that a topic begins
-    /// with is taken without being kept: no id is given out over it.
+    /// No command is carried out, since there was no room for what the start has to write first.
+    /// The id mark that a topic begins with counts as taken without being written: no id is given
+    /// out over it.
     Closed,
 }
 
@@ -34,7 +35,7 @@ impl<D: Renewable + Drop> Keep for LogKeep<D> {
     }
 }
 
-/// What becomes of a batch that is lent to a keep that is closed.
+/// Returns what becomes of a batch that is lent to a closed keep.
 fn closed(batch: &[Record]) -> Kept
     ensures { result ≡ closed_answer batch.now }
 {

@@ -1,32 +1,33 @@
-// When the file of a keep is compacted. To count the lines that would go takes a reading of the whole file, so what was
-// counted last is used as long as it tells enough: of the keys whose lines would stay none goes before the floor to which
-// the file is compacted rises, so until then there are never fewer such lines. A compaction raises it, and then nothing is
-// known of the deletes that were kept.
+// When a file is compacted. Counting the lines that a compaction would drop means reading the whole
+// file, so the last count is used as long as it says enough: until the floor of the next compaction
+// rises, there are never fewer lines that stay than were counted. A compaction raises that floor,
+// and then nothing is known of the deletes that were kept.
 ghost use Rattle.std.specs.Prelude.{◌≡◌, ◌<◌, true, false};
 ghost use Rattle.reg_file_keep.specs.Room.{due, least, next_count, waited};
 
 use reg_records::{Key, LOG_LINES, Log};
 use std::alloc::{AllocError, Global};
 
-/// A file that has no more lines, those that come among them, isn't compacted for their number alone.
+/// A file isn't compacted for the number of its lines while it has no more than this many, with
+/// those to come.
 const FEW_LINES: u64 = 100_000;
 
-/// How many batches pass before a compaction that failed is tried again.
+/// After a failed compaction this many batches pass before the next try.
 const PATIENCE: u64 = 1_000;
 
 /// What is known of a file's lines.
 #[derive(Clone, Copy, Debug, PartialEq, Eq)]
 pub(crate) struct Room {
-    /// How many of them would stay, at least.
+    /// At least this many lines stay in a compaction.
     pub kept: u64,
-    /// Of how many lines they are counted again.
+    /// The lines are counted again once the file has more than this many.
     pub again: u64,
-    /// How many batches pass before that.
+    /// This many batches pass before that.
     pub patience: u64,
 }
 
 impl Room {
-    /// Nothing is known.
+    /// Makes one that knows nothing.
     pub(crate) fn new() -> Room
         ensures { result ≡ record { kept = 0; again = 0; patience = 0 } }
     {
@@ -37,8 +38,8 @@ impl Room {
         }
     }
 
-    /// What the log of a file with so many lines tells of it before so many more come, so that the file isn't read again
-    /// where few lines would go. Nothing is promised of it.
+    /// Returns what a log tells of its file with `lines` lines before `more` lines come, so that
+    /// the file isn't read again if few lines would be dropped. It affects speed only.
     pub(crate) fn of_log(alloc: Global, log: &Log, lines: u64, more: u64) -> Room
         ensures { result.patience ≡ 0 }
     {
@@ -52,7 +53,7 @@ impl Room {
         }
     }
 
-    /// So many lines would stay, of which the file has so many.
+    /// Makes one after a count: `kept` of `lines` lines stay.
     pub(crate) fn counted(kept: u64, lines: u64) -> Room
         ensures { result ≡ record { kept = kept; again = next_count kept lines; patience = 0 } }
     {
@@ -63,7 +64,7 @@ impl Room {
         }
     }
 
-    /// So many lines were left by a compaction, which raised the floor of the next one.
+    /// Makes one after a compaction that left `lines` lines and raised the floor of the next one.
     pub(crate) fn left(lines: u64) -> Room
         ensures { result ≡ record { kept = 0; again = next_count lines lines; patience = 0 } }
     {
@@ -73,14 +74,14 @@ impl Room {
         }
     }
 
-    /// A compaction failed.
+    /// Notes that a compaction failed.
     pub(crate) fn wait(&mut self)
         ensures { self.new ≡ record self.old { patience = 1000 } }
     {
         self.patience = PATIENCE;
     }
 
-    /// Whether a batch is to pass before the lines are counted again; then it has passed.
+    /// Returns whether the next count still has to wait, and counts this batch.
     pub(crate) fn waits(&mut self) -> bool
         ensures waits { result ≡ true → 0 < self.old.patience }
         ensures none { result ≡ false → self.old.patience ≡ 0 }
@@ -93,8 +94,8 @@ impl Room {
         false
     }
 
-    /// How many of a file's lines would have to go for it to be compacted before so many more come; none where they aren't to
-    /// be counted now.
+    /// Returns how many lines a compaction has to drop to be made before `more` lines come; `None`
+    /// if lines aren't counted now.
     pub(crate) fn due(&self, lines: u64, more: u64) -> Option<u64>
         ensures { result ≡ due self.now lines more }
     {
@@ -111,7 +112,8 @@ impl Room {
         Some(lines / 2 + 1)
     }
 
-    /// How many lines of a full log would have to go: one at the start, before they were ever counted, and then a tenth.
+    /// Returns how many lines of a full log have to be dropped: one if they were never counted, as
+    /// at the start, else a tenth.
     fn least(&self, lines: u64) -> u64
         ensures { result ≡ least self.now lines }
     {
@@ -122,8 +124,8 @@ impl Room {
     }
 }
 
-/// How many of a log's lines stay, at least, in a compaction to its own floor: the last one of each key, unless it deletes
-/// the key below the floor. The only error is out of memory.
+/// Counts the lines of a log that stay, at least, in a compaction to its own floor: the last one of
+/// each key, unless it deletes the key below the floor. The only error is out of memory.
 fn count_staying(alloc: Global, log: &Log) -> Result<u64, AllocError> {
     let mut keys: Vec<&Key> = log.records.iter().map(|record| &record.key).collect(alloc)?;
     keys.sort_unstable();

@@ -16,30 +16,33 @@ use reg_journal::{Disk, Found, Journal, JournalOpenError, Renewable};
 use reg_pen::KeptLog;
 use std::alloc::Global;
 
-/// For how many lines room is made at the start, so that no first command waits for it.
+/// The start makes room for this many lines, so that the first commands don't wait for a
+/// compaction.
 const FIRST_LINES: u64 = 1_000;
 
-/// What a start over a file gives.
+/// The result of a start over a file.
 #[derive(Drop)]
 pub struct Started<D: Renewable + Drop> {
-    /// The log of the file, and the open keep that stands at its end. Only `start_file_keep` makes such a keep, so that they belong
-    /// together.
+    /// The log of the file, and the open keep at its end.
     pub kept: KeptLog<LogKeep<D>>,
-    /// Where the file's empty line stood when it was read.
+    /// The position of the file's empty line when it was read, in bytes.
     pub end: usize,
-    /// How many bytes stood behind the log, which are on the other disk.
+    /// How many bytes followed the log; they are in the other file now.
     pub cut: usize,
 }
 
 /// Why nothing was started, and the disk.
 #[derive(Drop)]
 pub struct NotStarted<D: Drop> {
+    /// The disk, for the caller to go on with.
     pub disk: D,
+    /// The error.
     pub error: JournalOpenError,
 }
 
-/// Reads the log of a file, ends it with an empty line, puts aside and cuts off what stands behind that, and compacts the
-/// file where that is due.
+/// Reads the log of a file, ends it with an empty line, moves what follows to `aside`, and compacts
+/// the file if that is due. Fails if the file isn't a log, if the disk fails, or if memory is
+/// refused; nothing is lost then.
 pub fn start_file_keep<D: Renewable + Drop, A: Disk + Drop, O: Opens<A>>(
     alloc: Global,
     disk: D,
@@ -50,18 +53,19 @@ pub fn start_file_keep<D: Renewable + Drop, A: Disk + Drop, O: Opens<A>>(
     // The log is what the file said.
     ensures log { D.is_modelled → IfOk result (λ it. (says : Said) × (said (D.seen disk) ≡ Ok says) × IsLogOf says.floor says.reads it.kept.log) }
 
-    // The keep stands at its end and isn't broken: its file says a compaction of it, all of it on the disk.
+    // The keep is at its end and isn't broken: its file says a compaction of it, all of it on the
+    // disk.
     ensures kept { D.is_modelled → IfOk result (λ it. IsOpen it.kept.keep (λ keep. SaysCompaction (said (D.seen disk)) (said (D.seen keep.journal.disk)))) }
     ensures durable { D.is_modelled → IfOk result (λ it. IsOpen it.kept.keep (λ keep. Only (D.seen keep.journal.disk) (D.may_leave keep.journal.disk))) }
     ensures sound { IfOk result (λ it. IsOpen it.kept.keep (λ keep. keep.journal.is_broken ≡ false)) }
     ensures next { IfOk result (λ it. IsOpen it.kept.keep (λ keep. keep.next ≡ it.kept.log.next)) }
 
-    // A crash at any moment leaves what it might have left before, a file with all bytes that were there, or one that says a
-    // compaction of what it said.
+    // A crash at any moment leaves what it might have left before, a file with all bytes that were
+    // there, or one that says a compaction of what it said.
     ensures any_moment { D.is_modelled → IfOk result (λ it. IsOpen it.kept.keep (λ keep. LeavesOnly D.moment D.left_since D.may_leave disk keep.journal.disk
         (λ c. HasAll (D.may_leave disk) (D.seen disk) c ⊎ SaysCompaction (said (D.seen disk)) (said c)))) }
 
-    // Where nothing is started, nothing was lost either.
+    // If nothing is started, nothing is lost.
     ensures left { D.is_modelled → IfErr result (λ it. LeavesOnly D.moment D.left_since D.may_leave disk it.disk
         (LosesNothing (D.may_leave disk) (D.seen disk))) }
 {

@@ -1,4 +1,4 @@
-// What a keep knows of its file, and making room in it.
+// What a keep knows of its file, and making room in the file.
 ghost use Rattle.std.specs.Prelude.{◌≡◌, ◌⊎◌, ◌<◌, ◌≤◌, ◌-◌, max, None, Some, true, false};
 ghost use Rattle.reg_journal.specs.Disk.{GaveFault, LeavesOnly};
 ghost use Rattle.reg_journal.specs.Lines.{said};
@@ -17,17 +17,17 @@ use std::alloc::Global;
 #[derive(Clone, Copy, Debug, PartialEq, Eq)]
 pub(crate) struct Upkeep {
     pub room: Room,
-    /// To which floor the file is compacted: the next offset that it had at its last compaction, and at first its
-    /// own floor. So a delete stays over one compaction at least.
+    /// The floor of the next compaction of the file: the next offset at its last compaction, or at
+    /// first the file's own floor. So each delete survives at least one compaction.
     pub floor: u64,
     /// The next offset.
     pub next: u64,
-    /// Why the file couldn't be compacted when that was tried last, if it couldn't.
+    /// Why the file couldn't be compacted at the last try; `None` if it could.
     pub fault: Option<JournalCompactError>,
 }
 
 impl Upkeep {
-    /// Of a file with that floor and that next offset.
+    /// Makes what is known of a file with this floor and this next offset.
     pub(crate) fn new(floor: u64, next: u64, room: Room) -> Upkeep
         ensures { result ≡ record { room = room; floor = floor; next = next; fault = None } }
     {
@@ -39,7 +39,7 @@ impl Upkeep {
         }
     }
 
-    /// The batch was appended.
+    /// Notes that the batch was appended.
     pub(crate) fn append(&mut self, batch: &[Record])
         ensures { self.new ≡ record self.old { next = next_behind self.old.next batch.now } }
     {
@@ -48,7 +48,8 @@ impl Upkeep {
         }
     }
 
-    /// So many of the file's lines stay; it had so many, and was compacted where at least so many of them would go.
+    /// Notes a count: `kept` of the file's `lines` lines stay, and the file was compacted if at
+    /// least `least` lines were dropped.
     fn count(&mut self, kept: u64, lines: u64, least: u64)
         ensures count { self.new ≡ after_count self.old kept lines least }
         ensures patience { self.new.room.patience ≡ 0 }
@@ -66,7 +67,7 @@ impl Upkeep {
         self.floor = self.floor.max(self.next);
     }
 
-    /// The file couldn't be compacted.
+    /// Notes that the file couldn't be compacted.
     fn fail(&mut self, error: JournalCompactError)
         ensures { self.new ≡ record self.old { room = record self.old.room { patience = 1000 }; fault = Some error } }
     {
@@ -75,7 +76,7 @@ impl Upkeep {
     }
 }
 
-/// Compacts the file of a journal where that is due before a batch of so many lines is appended.
+/// Compacts the file of a journal if that is due before a batch of `lines` lines is appended.
 pub(crate) fn make_room<D: Renewable>(
     alloc: Global,
     journal: &mut Journal<D>,

@@ -1,9 +1,10 @@
-// How far lines were taken, for the threads that don't take them.
+// The progress of the thread that takes lines, for other threads.
 use crate::ended::FollowError;
 use std::sync::atomic::{AtomicBool, AtomicU64, Ordering};
 use std::sync::{Mutex, Wait};
 
-/// How far the lines of a log were taken.
+/// The progress of the thread that takes the lines of a log. Any thread may ask; no call but `fail`
+/// and `error` blocks.
 #[derive(Drop)]
 pub struct Course {
     lines: AtomicU64,
@@ -14,7 +15,7 @@ pub struct Course {
 }
 
 impl Course {
-    /// No line was taken yet.
+    /// Makes the course of a thread that has taken no line.
     pub fn new() -> Course {
         Course {
             lines: AtomicU64::new(0),
@@ -25,49 +26,49 @@ impl Course {
         }
     }
 
-    /// How many lines were taken.
+    /// Returns how many lines were taken.
     pub fn lines(&self) -> u64 {
         self.lines.load(Ordering::SeqCst)
     }
 
-    /// So many lines were taken.
+    /// Notes that so many lines were taken in all.
     pub fn note(&self, lines: u64) {
         self.lines.store(lines, Ordering::SeqCst);
     }
 
-    /// Whether no more lines are taken, for whatever reason.
+    /// Returns whether no more lines will be taken, for whatever reason.
     pub fn has_ended(&self) -> bool {
         self.has_ended.load(Ordering::SeqCst)
     }
 
-    /// Whether lines aren't taken any more for an error.
+    /// Returns whether lines aren't taken any more because of an error.
     pub fn has_failed(&self) -> bool {
         self.has_failed.load(Ordering::SeqCst)
     }
 
-    /// No more lines are taken.
+    /// Notes that no more lines will be taken.
     pub fn end(&self) {
         self.has_ended.store(true, Ordering::SeqCst);
     }
 
-    /// No more lines are taken, for that error.
+    /// Notes that no more lines will be taken because of this error.
     pub fn fail<R: Wait>(&self, rt: &R, error: FollowError) {
         *self.error.lock(rt) = Some(error);
         self.has_failed.store(true, Ordering::SeqCst);
         self.end();
     }
 
-    /// The error for which lines aren't taken any more.
+    /// Returns the error for which lines aren't taken any more; `None` if there is none.
     pub fn error<R: Wait>(&self, rt: &R) -> Option<FollowError> {
         *self.error.lock(rt)
     }
 
-    /// Nobody needs the desks' list any more.
+    /// Notes that nobody needs the desks' list any more.
     pub fn leave(&self) {
         self.is_left.store(true, Ordering::SeqCst);
     }
 
-    /// Whether nobody needs the desks' list any more.
+    /// Returns whether nobody needs the desks' list any more.
     pub fn is_left(&self) -> bool {
         self.is_left.load(Ordering::SeqCst)
     }

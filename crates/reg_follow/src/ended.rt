@@ -7,18 +7,18 @@ use thiserror::Error;
 /// Where the lines of a log end.
 #[derive(Clone, Copy, Debug, PartialEq, Eq)]
 pub enum LinesEnd {
-    /// The input ended behind a whole line.
+    /// The input ended after a whole line.
     Input,
-    /// The input ended within a line, which isn't taken.
+    /// The input ended inside a line. That line isn't taken.
     Unfinished,
-    /// An empty line ended the log. What stands behind it is left.
+    /// An empty line ended the log. What follows it isn't taken.
     EmptyLine,
 }
 
-/// Why lines aren't followed, or no longer.
+/// Why lines aren't followed, or no longer are.
 #[derive(Clone, Copy, Debug, PartialEq, Eq, Error)]
 pub enum FollowError {
-    /// The first line that has a fault; lines count from 1.
+    /// The first faulty line; lines count from 1.
     #[error("line {line}: {fault}")]
     Fault { line: u64, fault: LogFault },
     /// The reader failed.
@@ -30,7 +30,7 @@ pub enum FollowError {
 }
 
 impl FollowError {
-    /// The exit status of a program that ends with it.
+    /// Returns the exit status of a program that ends with this error: 2 for a faulty line, else 1.
     pub fn status(self) -> u8 {
         match self {
             FollowError::Fault { line: _, fault: _ } => 2,

@@ -1,4 +1,4 @@
-// What takes the lines of a log as they come, and publishes their records to a node's views.
+// Takes the lines of a log as they come, and publishes their records to views.
 ghost use Rattle.std.specs.Prelude.{◌≡◌, ◌<◌, ◌++◌, List, ℕ, [], length, IfErr, IfOk, MatchBool, OnErr, OnOk};
 ghost use Rattle.std.specs.FinSet.{empty};
 ghost use Rattle.std.specs.Io.KnownBytes.{Keeps};
@@ -20,18 +20,18 @@ const LINES_AT_ONCE: u64 = 1_000;
 /// Why no more lines were taken at a time.
 #[derive(Clone, Copy, Debug, PartialEq, Eq)]
 pub enum Stop {
-    /// So many lines are enough for one time.
+    /// 1,000 lines are enough for one time.
     Full,
-    /// The next line isn't whole.
+    /// The next line isn't complete yet.
     Waits,
     /// An empty line ends the log.
     Ended,
 }
 
-/// Takes the lines of a log as they come, and publishes their records to a node's views, each as a take at a
-/// topic of which nothing was read.
+/// Takes the lines of a log as they come, and publishes their records to a node's views. Each
+/// record is a take (see `reg_node`) that has read none of the topic's items.
 ///
-/// Contracts see the bytes that no line was read of, beside the published draws and the pending ones.
+/// Contracts see the bytes that aren't read as lines yet, the published draws and the pending ones.
 #[derive(Drop)]
 pub struct Intake<M: FeedName<Draw, Taken>, U: Copies<Draw, Taken, M>, R: Wait + Drop> {
     alloc: Global,
@@ -54,7 +54,7 @@ impl<M: FeedName<Draw, Taken>, U: Copies<Draw, Taken, M>, R: Wait + Drop> Model
 }
 
 impl<M: FeedName<Draw, Taken>, U: Copies<Draw, Taken, M>, R: Wait + Drop> Intake<M, U, R> {
-    /// One that begins with nothing, and publishes by that writer.
+    /// Makes one that has taken nothing and publishes by `out`.
     pub fn new(alloc: Global, out: Box<FeedWriter<Draw, Taken, M, U, R>>) -> Intake<M, U, R>
         requires { (out.value ≡ ([], [])) × (M.first ≡ empty) }
         ensures { HasTaken [] [] result }
@@ -66,21 +66,21 @@ impl<M: FeedName<Draw, Taken>, U: Copies<Draw, Taken, M>, R: Wait + Drop> Intake
         }
     }
 
-    /// How many lines were read, up to `u64::MAX`.
+    /// Returns how many lines were read, up to `u64::MAX`.
     pub fn count(&self) -> u64
         ensures { result ≡ self.now.unread.count }
     {
         self.incoming.count()
     }
 
-    /// Whether bytes came that no line was read of.
+    /// Returns whether there are bytes that aren't read as lines yet.
     pub fn has_unread(&self) -> bool
         ensures { MatchBool result (0 < length self.now.unread.bytes) (self.now.unread.bytes ≡ []) }
     {
         !self.incoming.is_empty()
     }
 
-    /// A view of the node. It may be refused at any call.
+    /// Makes a view of the node. It is refused if no place for a reader is left.
     pub fn view(&mut self) -> Result<NodeView<M, U>, NoPlace>
         ensures new { IfOk result (λ v. v ≡ []) }
         ensures same { self.new ≡ self.old }
@@ -89,7 +89,8 @@ impl<M: FeedName<Draw, Taken>, U: Copies<Draw, Taken, M>, R: Wait + Drop> Intake
         Ok(NodeView::new(self.alloc, reader))
     }
 
-    /// Takes bytes that came behind those before. The only error is out of memory; all is then as it was.
+    /// Takes bytes that follow those before. The only error is out of memory; nothing has changed
+    /// then.
     pub fn take(&mut self, bytes: &[u8]) -> Result<(), AllocError>
         ensures taken { (text : List ℕ) (read : List Read) → HasTaken text read self.old → OnOk result (HasTaken (text ++ bytes.now) read self.new) }
         ensures list { (self.new.published ≡ self.old.published) × (self.new.pending ≡ self.old.pending) }
@@ -98,8 +99,8 @@ impl<M: FeedName<Draw, Taken>, U: Copies<Draw, Taken, M>, R: Wait + Drop> Intake
         self.incoming.take(bytes)
     }
 
-    /// Takes what one read of a reader gives, behind those bytes that came before, and says how many bytes; none at its
-    /// end. At `Err` all is as it was.
+    /// Takes what one read of a reader gives and returns how many bytes that is; 0 at the reader's
+    /// end. Fails if the reader does, or if memory is refused; nothing has changed then.
     pub fn take_from<B: Pieces>(&mut self, reader: &mut B) -> Result<usize, GiveError>
         ensures given { IfOk result (Gives (B.remaining reader.old) (B.remaining reader.new) self.old.unread self.new.unread) }
         ensures list { (self.new.published ≡ self.old.published) × (self.new.pending ≡ self.old.pending) }
@@ -110,10 +111,11 @@ impl<M: FeedName<Draw, Taken>, U: Copies<Draw, Taken, M>, R: Wait + Drop> Intake
         reader.give_to(&mut self.incoming)
     }
 
-    /// Reads lines that are whole, 1,000 at most, and publishes their records, all at once. It may wait for
+    /// Reads complete lines, 1,000 at most, and publishes their records at once. It may block on
     /// views that read an older list.
     ///
-    /// After an error a line may have been read whose record isn't published; no record behind it is.
+    /// Fails at a faulty line, or if memory is refused. A line may then have been read whose record
+    /// isn't published; no record after it is published.
     pub fn publish_lines(&mut self) -> Result<Stop, IntakeError>
         ensures taken { (text : List ℕ) (read : List Read) → HasTaken text read self.old → IfOk result (λ stop. GoesOn text read stop self.old self.new × (self.new.pending ≡ [])) }
         ensures refused { (text : List ℕ) (read : List Read) → HasTaken text read self.old → IfErr result (λ e. IsStopped text read e self.new) }
@@ -125,7 +127,7 @@ impl<M: FeedName<Draw, Taken>, U: Copies<Draw, Taken, M>, R: Wait + Drop> Intake
         }
     }
 
-    /// Publishes what is pending.
+    /// Publishes what is pending. The only error is out of memory; nothing has changed then.
     fn publish(&mut self) -> Result<(), AllocError>
         ensures published { OnOk result (self.new ≡ published self.old) }
         ensures refused { OnErr result (self.new ≡ self.old) }
@@ -136,7 +138,7 @@ impl<M: FeedName<Draw, Taken>, U: Copies<Draw, Taken, M>, R: Wait + Drop> Intake
         Ok(())
     }
 
-    /// Reads lines that are whole, 1,000 at most, and appends their records.
+    /// Reads complete lines, 1,000 at most, and appends their records.
     fn append_lines(&mut self) -> Result<Stop, IntakeError>
         ensures taken { (text : List ℕ) (read : List Read) → HasTaken text read self.old → IfOk result (λ stop. GoesOn text read stop self.old self.new) }
         ensures refused { (text : List ℕ) (read : List Read) → HasTaken text read self.old → IfErr result (λ e. IsStopped text read e self.new) }
@@ -151,7 +153,8 @@ impl<M: FeedName<Draw, Taken>, U: Copies<Draw, Taken, M>, R: Wait + Drop> Intake
         Ok(Stop::Full)
     }
 
-    /// Reads the next line and appends its record; where it isn't whole, or is empty, says so.
+    /// Reads the next line and appends its record. Returns why it didn't if the line isn't complete
+    /// or is empty.
     fn append_line(&mut self) -> Result<Option<Stop>, IntakeError>
         ensures taken { (text : List ℕ) (read : List Read) → HasTaken text read self.old → IfOk result (λ stop. TakesLine text read self.old stop self.new) }
         ensures refused { (text : List ℕ) (read : List Read) → HasTaken text read self.old → IfErr result (λ e. IsStopped text read e self.new) }
@@ -167,7 +170,7 @@ impl<M: FeedName<Draw, Taken>, U: Copies<Draw, Taken, M>, R: Wait + Drop> Intake
         }
     }
 
-    /// Reads the next line, if it is whole.
+    /// Reads the next line, if it is complete.
     fn next_line(&mut self) -> Result<Came, IntakeError>
         ensures came { (text : List ℕ) (read : List Read) → HasTaken text read self.old → IfOk result (λ came. ComesTo text read self.old came self.new) }
         ensures refused { (text : List ℕ) (read : List Read) → HasTaken text read self.old → IfErr result (λ e. IsStopped text read e self.new) }
@@ -175,7 +178,7 @@ impl<M: FeedName<Draw, Taken>, U: Copies<Draw, Taken, M>, R: Wait + Drop> Intake
         self.incoming.next()
     }
 
-    /// Appends the record that a line says, if it says one.
+    /// Appends the record of a line, if the line has one. The only error is out of memory.
     fn append(&mut self, read: Read) -> Result<(), AllocError>
         ensures added { OnOk result (Adds self.old read self.new) }
         ensures refused { OnErr result (self.new ≡ self.old) }

@@ -1,4 +1,4 @@
-// What the answers of desks over lines are. What is proved here costs nothing at run time.
+// What the answers of desks over lines are. The law costs nothing at run time.
 ghost use Rattle.std.specs.Prelude.{List, ℕ};
 ghost use Rattle.reg_records.specs.declared.record.Read.{Read};
 ghost use Rattle.reg_follow.specs.Following.{AnswersAreOfFirstLines, Following, HasTaken, list_of};
@@ -10,9 +10,11 @@ use reg_node::{Draw, Taken};
 use reg_service::Desk;
 use reg_set::records_are_ordered;
 
-/// A desk answers each query as the log of the first lines does, so many of them, and no fewer than those of the front that it had seen.
+/// States that a desk answers each query as the log of the first n lines does, for some n that is
+/// no less than that of the prefix which the desk had seen.
 ///
-/// Each front of the list is what the first lines come to, and comes to their records; a later one is of no fewer.
+/// Each prefix of the list holds the records of the first n lines for some n, and a longer prefix
+/// those of no fewer lines.
 pub fn answers_are_of_first_lines<M: FeedName<Draw, Taken>, U: Copies<Draw, Taken, M>>()
     ensures { (text : List ℕ) (read : List Read) (s : Following) → HasTaken text read s
         → AnswersAreOfFirstLines ⟦<FollowDesk<M, U> as Desk>⟧.asks read (list_of s) }

@@ -16,10 +16,11 @@ use reg_node::{Draw, Taken};
 use std::io::ErrorKind;
 use std::sync::Wait;
 
-/// Takes the lines that a reader gives, as they come, until its end or an empty line, and publishes their
-/// records: all that are there, 1,000 at a time at most. The course tells how many were taken.
+/// Takes the lines that a reader gives, until its end or an empty line, and publishes their records
+/// as they come, up to 1,000 at once. `course` shows how many were taken.
 ///
-/// A reader that fails, but for interruptions, is a fault.
+/// Fails at a faulty line, if the reader fails other than by an interruption, or if memory is
+/// refused.
 pub fn follow_lines<B: Pieces, M: FeedName<Draw, Taken>, U: Copies<Draw, Taken, M>, R: Wait + Drop>(
     rt: &R,
     reader: &mut B,
@@ -45,9 +46,10 @@ pub fn follow_lines<B: Pieces, M: FeedName<Draw, Taken>, U: Copies<Draw, Taken, 
     unreachable!()
 }
 
-/// What one read gave.
+/// The result of one read.
 #[derive(Clone, Copy)]
 pub(crate) enum Piece {
+    /// It gave bytes.
     Bytes,
     /// It was interrupted.
     Nothing,
@@ -55,7 +57,7 @@ pub(crate) enum Piece {
     End,
 }
 
-/// Takes what one read gives.
+/// Takes what one read gives. Fails if the reader does, or if memory is refused.
 fn take_piece<B: Pieces, M: FeedName<Draw, Taken>, U: Copies<Draw, Taken, M>, R: Wait + Drop>(
     reader: &mut B,
     intake: &mut Intake<M, U, R>,
@@ -77,7 +79,7 @@ fn take_piece<B: Pieces, M: FeedName<Draw, Taken>, U: Copies<Draw, Taken, M>, R:
     }
 }
 
-/// Publishes the records of all lines that are whole. `false` where an empty line ends the log.
+/// Publishes the records of all complete lines. Returns `false` if an empty line ends the log.
 fn publish_all<M: FeedName<Draw, Taken>, U: Copies<Draw, Taken, M>, R: Wait + Drop>(
     rt: &R,
     intake: &mut Intake<M, U, R>,
@@ -98,7 +100,7 @@ fn publish_all<M: FeedName<Draw, Taken>, U: Copies<Draw, Taken, M>, R: Wait + Dr
     unreachable!()
 }
 
-/// Where lines end at the end of the input.
+/// Returns where the lines ended, once the input has ended.
 fn end_of<M: FeedName<Draw, Taken>, U: Copies<Draw, Taken, M>, R: Wait + Drop>(
     intake: &Intake<M, U, R>,
 ) -> LinesEnd

@@ -1,4 +1,4 @@
-// Threads over ports that follow lines.
+// The threads and ports that follow lines.
 ghost use Rattle.std.specs.Prelude.{◌≡◌, ◌<◌};
 ghost use Rattle.std.specs.FinSet.{empty};
 
@@ -22,19 +22,20 @@ use std::time::{Clock, Duration};
 /// The most workers of a port.
 const WORKERS_LIMIT: u32 = 1_024;
 
-/// How long it is looked from one time to the next whether lines have come, in milliseconds.
+/// How often the program looks whether lines have come, in milliseconds.
 const LOOK: u64 = 20;
 
-/// Ports listen once no line came for so long after the first one, in milliseconds.
+/// Ports listen once no line has come for this long after the first one, in milliseconds.
 const QUIET: u64 = 500;
 
-/// Ports listen though no line came for so long, in milliseconds.
+/// Ports listen after this long even if no line has come, in milliseconds.
 const PATIENCE: u64 = 10_000;
 
-/// A desk over the list of what was taken, which does no commands.
+/// A desk over the list of taken records. It refuses commands.
 pub type FollowDesk<M, U> = FeedDesk<Draw, Taken, M, U, Nobody>;
 
-/// Watches whether lines can't be taken any more. There is nothing to bring to the ports: what takes the lines publishes their list.
+/// Tells the ports when lines can't be taken any more. It has nothing to bring to them: the thread
+/// that takes lines publishes their list.
 #[derive(Drop)]
 struct Watching<'a> {
     course: &'a Course,
@@ -53,12 +54,14 @@ impl Follow for Watching<'_> {
     }
 }
 
-/// Serves what the lines of a reader come to, at so many ports of 1,024 workers each at most, which refuse commands. They listen once 500
-/// ms passed without a line after the first one, 10 s without any, or the input ended. At its end, which is said on the error output, they
-/// go on with what they have. Their connections and requests are counted in the traffic.
+/// Serves the registry that a reader's lines describe, at the ports that `endpoints` opens, each
+/// with at most 1,024 workers. Commands are refused. The ports listen once 500 ms have passed
+/// without a line after the first one, once 10 s have passed without any, or once the input has
+/// ended. The end of the input is reported on the error output, and the ports go on with what they
+/// have. `traffic` counts their connections and requests.
 ///
-/// With a limit the call returns once all ports have ended. Without one it returns only where lines can't be taken any more, or the ports
-/// can't be started.
+/// With a limit the call returns once all ports have ended. Without one it returns only if lines
+/// can't be taken any more or the ports can't be started.
 pub fn serve_lines<
     B: BufRead + Send + Drop + 'static,
     R: Threads + Wait + Clock + Net + Eprint + Sync + Send + Copy + Drop + 'static,
@@ -75,7 +78,8 @@ pub fn serve_lines<
     serve_feed::<Brand, B, R, E>(rt, alloc, size, Unnamed::new(), reader, traffic, endpoints)
 }
 
-/// Makes the one feed of all ports, starts the thread that takes lines, and serves by desks over that feed.
+/// Makes the feed of all ports, starts the thread that takes lines, and serves by desks over that
+/// feed.
 fn serve_feed<
     M: FeedName<Draw, Taken> + Send + Sync + 'static,
     B: BufRead + Send + Drop + 'static,
@@ -102,7 +106,7 @@ fn serve_feed<
     served
 }
 
-/// What takes lines, over a feed of its own with places for so many readers.
+/// Makes what takes lines, over a feed of its own with places for `readers` readers.
 fn make_intake<M: FeedName<Draw, Taken>, R: Wait + Drop>(
     rt: R,
     alloc: Global,
@@ -116,7 +120,7 @@ fn make_intake<M: FeedName<Draw, Taken>, R: Wait + Drop>(
     Ok(Intake::new(alloc, Box::new(alloc, out)?))
 }
 
-/// So many desks over the feed of what takes lines.
+/// Makes `count` desks over the feed of what takes lines.
 fn make_desks<M: FeedName<Draw, Taken>, U: Copies<Draw, Taken, M>, R: Wait + Drop>(
     alloc: Global,
     intake: &mut Intake<M, U, R>,
@@ -130,12 +134,12 @@ fn make_desks<M: FeedName<Draw, Taken>, U: Copies<Draw, Taken, M>, R: Wait + Dro
     Ok(desks)
 }
 
-/// What a thread does beside the ports.
+/// The work of a thread beside the ports.
 trait Task {
     fn run(&mut self, course: &Course);
 }
 
-/// Takes lines, and keeps the desks' list until nobody needs it.
+/// Takes lines, and keeps the desks' list alive until nobody needs it.
 #[derive(Drop)]
 struct Taking<B: Drop, M: FeedName<Draw, Taken>, U: Copies<Draw, Taken, M>, R: Wait + Drop> {
     rt: R,
@@ -166,7 +170,7 @@ impl<
     }
 }
 
-/// Starts a thread, which nobody waits for: it may read for ever. Gives its course.
+/// Starts a thread and returns its course. Nobody joins the thread: its read may block for ever.
 fn start<R: Threads, T: Task + Send + Drop + 'static>(
     rt: &R,
     alloc: Global,
@@ -181,7 +185,7 @@ fn start<R: Threads, T: Task + Send + Drop + 'static>(
     }
 }
 
-/// Says on the error output where lines ended.
+/// Reports on the error output where the lines ended.
 fn tell_end<R: Eprint>(rt: &R, end: LinesEnd, lines: u64) {
     let why = match end {
         LinesEnd::Input => "the input ended",
@@ -191,7 +195,8 @@ fn tell_end<R: Eprint>(rt: &R, end: LinesEnd, lines: u64) {
     let _told = rt.eprintln(format_args!("{lines} lines taken: {why}"));
 }
 
-/// Waits until lines were taken and no more came for a while, or none came for long, or no more can come.
+/// Waits until lines were taken and no more have come for a while, or none has come for long, or no
+/// more can come.
 fn wait_for_lines<R: Wait + Clock>(rt: &R, course: &Course) {
     let mut lines = 0;
     let mut waited: u64 = 0;

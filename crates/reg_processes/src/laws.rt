@@ -1,5 +1,5 @@
-// What processes over one chain say. What is proved here costs nothing at run time: a function that
-// needs a law calls it.
+// What processes over one chain agree on. The laws cost nothing at run time: a function that needs
+// a law calls it.
 ghost use Rattle.reg_processes.specs.Laws.{AnswersAreOfTheWhole, FrontsTakePart, IdsAreForTwo, KeptSetsBegin, LawfulListsTakePart, LogsAreCompactions, NoIdNamesTwoSchemas, RegistriesGiveTheWhole, SameLogsAnswerAlike, SameLogsGiveAlike, SameLogsGiveSameBytes, SameLogsStepAlike, StepsAreOfTheWhole};
 
 use reg_alike::reg_floored::{compactions_compose, compactions_unite};
@@ -13,14 +13,15 @@ use reg_topic::{
     lists_are_joined, log_is_what_was_published,
 };
 
-/// A process takes part in its chain at each moment since its base.
+/// States that a process takes part in its chain at each moment since its base.
 pub fn fronts_take_part()
     ensures { FrontsTakePart }
 {
     lists_are_joined();
 }
 
-/// The log of a process is a compaction of the batches that it took, at its base's floor.
+/// States that the log of a process is a compaction of the batches that it took, at its base's
+/// floor.
 pub fn logs_are_compactions_of_the_chain()
     ensures { LogsAreCompactions }
 {
@@ -31,8 +32,8 @@ pub fn logs_are_compactions_of_the_chain()
     log_is_what_was_published();
 }
 
-/// A process answers and decides as a registry over all records of the batches that it took, whatever
-/// its base forgot and whatever it compacted.
+/// States that a process answers and decides as a registry over all records of the batches that it
+/// took, whatever its base forgot and whatever it compacted.
 pub fn registries_are_of_the_chain()
     ensures give { RegistriesGiveTheWhole }
     ensures answer { AnswersAreOfTheWhole }
@@ -44,8 +45,8 @@ pub fn registries_are_of_the_chain()
     alike_steps_alike();
 }
 
-/// Processes that took as many batches of one chain give alike, answer each query alike and decide
-/// each command alike, whatever their bases and what each of them compacted.
+/// States that processes that took as many batches of one chain answer each query alike and decide
+/// each command alike, whatever their bases and whatever each of them compacted.
 pub fn same_logs_give_alike()
     ensures alike { SameLogsGiveAlike }
     ensures answers { SameLogsAnswerAlike }
@@ -58,15 +59,16 @@ pub fn same_logs_give_alike()
     alike_steps_alike();
 }
 
-/// So the bytes of their responses are the same.
+/// States that the bytes of their responses are the same too.
 pub fn same_logs_give_same_bytes()
     ensures { SameLogsGiveSameBytes }
 {
     same_logs_give_alike();
 }
 
-/// No id names two schemas in any two processes of one chain, at whatever moments, where each batch of
-/// the chain was decided by some process; also of two alone, where neither's base is ahead of the other.
+/// States that no id names two schemas in any two processes of one chain, at any moments, if each
+/// batch of the chain was decided by some process. The same holds of two processes alone if
+/// neither's base is ahead of the other.
 pub fn no_id_names_two_schemas()
     ensures among { NoIdNamesTwoSchemas }
     ensures of_two { IdsAreForTwo }
@@ -81,7 +83,8 @@ pub fn no_id_names_two_schemas()
     steps_stay_open();
 }
 
-/// There are such processes: each lawful list is one's, and what a process kept begins another one.
+/// States that such processes exist: each lawful list is one's, and what a process kept begins
+/// another.
 pub fn processes_exist()
     ensures lists { LawfulListsTakePart }
     ensures kept { KeptSetsBegin }

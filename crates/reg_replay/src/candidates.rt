@@ -13,12 +13,13 @@ use reg_leader::reg_records::{Key, Record, Value};
 use reg_leader::reg_values::decode_value;
 use std::alloc::{AllocError, Global};
 
-/// The one command that may have written the batch over this registry; `None` where none can have. Whether it did, only its
-/// decision shows: where any command's step writes this batch, the step of this one does too, though its reply may be another
+/// Returns the one command that may have written the batch over this registry; `None` if no command
+/// can have. Whether it did is decided by its step: if any command's step writes this batch, the
+/// step of this command does too, though its reply may differ
 /// ([`crate::batches_are_of_candidates`]).
 ///
-/// It is told by the batch's first record that is no mark of ids, by how many records there are, and by the mode in force. The
-/// only error is out of memory.
+/// It depends on the batch's first record that isn't an id mark, on how many records there are, and
+/// on the mode in force. The only error is out of memory.
 pub fn candidate(
     alloc: Global,
     registry: &Registry,
@@ -33,7 +34,7 @@ pub fn candidate(
     }
 }
 
-/// The batch without the mark of ids that it may begin with.
+/// Returns the batch without the id mark that it may begin with.
 fn without_mark(batch: &[Record]) -> &[Record]
     ensures { result.now ≡ spec.without_mark batch.now }
 {
@@ -53,7 +54,7 @@ fn is_mark(key: &Key) -> bool
     }
 }
 
-/// By the first record, which stands alone or not.
+/// Finds the command by the first record; `alone` says that it is the only one.
 fn candidate_by(
     alloc: Global,
     registry: &Registry,
@@ -71,7 +72,7 @@ fn candidate_by(
     }
 }
 
-/// The command that takes away what a key has.
+/// Returns the command that removes what a key has.
 fn removing(key: &Key, alone: bool) -> Result<Option<Command>, AllocError>
     ensures { IfOk result (λ found. found ≡ spec.removing key.now alone) }
 {
@@ -90,7 +91,7 @@ fn removing(key: &Key, alone: bool) -> Result<Option<Command>, AllocError>
     }
 }
 
-/// Of one version, or of a subject, whose versions are then removed one by one.
+/// Returns the deletion of one version, or of a subject, whose versions are removed one by one.
 fn removing_version(
     subject: &Text,
     version: u32,
@@ -112,7 +113,7 @@ fn removing_version(
     }))
 }
 
-/// The command that gives a key this value.
+/// Returns the command that gives a key this value.
 fn putting(
     alloc: Global,
     registry: &Registry,
@@ -152,7 +153,7 @@ fn putting(
     }
 }
 
-/// An import where the mode in force is IMPORT, else a registration.
+/// Returns an import if the mode in force is IMPORT, else a registration.
 fn registering(
     registry: &Registry,
     subject: Text,
@@ -173,7 +174,7 @@ fn registering(
     }
 }
 
-/// The level of that name, in the key's scope.
+/// Returns the command that sets the level of that name in the key's scope.
 fn setting_level(key: &Key, name: &str) -> Result<Option<Command>, AllocError>
     ensures { IfOk result (λ found. found ≡ spec.setting_level key.now name.now) }
 {
@@ -186,7 +187,8 @@ fn setting_level(key: &Key, name: &str) -> Result<Option<Command>, AllocError>
     }
 }
 
-/// The mode of that name, in the key's scope. It is set by force, which changes nothing of what is written.
+/// Returns the command that sets the mode of that name in the key's scope. It is forced, which
+/// doesn't change what is written.
 fn setting_mode(key: &Key, name: &str) -> Result<Option<Command>, AllocError>
     ensures { IfOk result (λ found. found ≡ spec.setting_mode key.now name.now) }
 {

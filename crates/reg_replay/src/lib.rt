@@ -1,5 +1,16 @@
-//! Which command may have written a batch that somebody else wrote to the same log. Whoever takes such a batch decides that
-//! command first, and takes the batch only where the decision writes the same records.
+//! Finds the command that may have written a batch.
+//!
+//! A process that takes over a batch from another writer of the same log doesn't know which command
+//! wrote it. [`candidate`] names one command from the batch and the mode in force. The caller
+//! decides that command itself, and takes the batch only if the decision writes the same records.
+//!
+//! One idea: one candidate is enough. [`batches_are_of_candidates`] is the theorem: if any
+//! command's step writes the batch, the candidate's does, so no lawful batch is refused.
+//!
+//! It doesn't decide commands (`reg_leader` does) and doesn't say who wrote a batch: two commands
+//! may write the same records, with different replies.
+//!
+//! Tests: `rule_cases`.
 #![tactic(auto)]
 
 mod candidates;

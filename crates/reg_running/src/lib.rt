@@ -1,4 +1,19 @@
-//! What the pen and the nodes of a running registry do is a list of a world's events.
+//! The bridge from running code to the world of `reg_world`: laws, no types.
+//!
+//! The pen, the followers and the desks of a running registry have contracts of their own, each
+//! about its own call. This crate puts them together: whatever they do, in whatever order, is a
+//! list of a world's events, with the outcomes that the callers got. So what `reg_world` proves of
+//! every list of events holds of running nodes.
+//!
+//! It has no code that runs. It doesn't cover threads and sockets, and a keep that is changed while
+//! it is lent is outside it.
+//!
+//! [`running_nodes_are_a_world`] is the bridge, and [`running_nodes_keep_the_headline`] the
+//! theorem: nodes answer as the log they took, an id names one schema for good, and each registered
+//! version met its level. [`pens_keep_what_they_publish`] says that no batch is published that its
+//! keep hasn't taken, and [`same_sets_give_same_bytes`] compares responses byte by byte.
+//!
+//! Tests: `world_cases` runs pens, nodes and desks beside a world.
 #![tactic(auto)]
 
 mod laws;

@@ -1,5 +1,4 @@
-// The laws of topics. What is proved here costs nothing at run time: a function that needs a law
-// calls it.
+// The laws of topics. They cost nothing at run time: a function that needs a law calls it.
 ghost use Rattle.reg_topic.specs.Laws.{AdoptedLogsBegin, AllowedDropsLeaveCompactions, CommitsFollow, FloorsRise, FloorsStayBelow, ItemsAreFoldedInTurn, KeptStaysCompaction, LawfulItemsFollow, LawfulListsGoOn, LawfulListsJoin, ListsAreFoldedInTurn, LogIsWhatWasPublished, LogsGrow, LogsGrowOverLists, MoreKeepsLasts};
 ghost use Rattle.reg_topic.specs.Promises.{LawfulListsKeepIds, LawfulListsMeetLevels, LawfulListsStayOpen};
 
@@ -13,15 +12,16 @@ use reg_leader::{
     steps_stay_open,
 };
 
-/// A compaction may be published exactly where its floor doesn't fall and isn't ahead of the next
-/// offset, its records are kept, and what stays is a compaction of what was.
+/// States when a compaction may be published: exactly if its floor neither falls nor is ahead of
+/// the next offset, its records are kept, and what stays is a compaction of what was kept.
 pub fn allowed_drops_leave_compactions()
     ensures { AllowedDropsLeaveCompactions }
 {
     drops_leave_compactions();
 }
 
-/// A kept set that is a compaction of its log stays so, after whatever items, and logs only grow.
+/// States that a kept set that is a compaction of its log stays one after any items, and that logs
+/// only grow.
 pub fn kept_sets_are_compactions()
     ensures kept { KeptStaysCompaction }
     ensures grows { LogsGrow }
@@ -33,26 +33,26 @@ pub fn kept_sets_are_compactions()
     allowed_drops_leave_compactions();
 }
 
-/// A kept set's floor never falls, and where it isn't above the next offset it stays so.
+/// States that a kept set's floor never falls, and that it never rises above the next offset.
 pub fn floors_stay_below()
     ensures below { FloorsStayBelow }
     ensures rise { FloorsRise }
 {}
 
-/// Items follow on those before them.
+/// States that items follow on those before them.
 pub fn lawful_items_follow()
     ensures in_turn { ItemsAreFoldedInTurn }
     ensures go_on { LawfulListsGoOn }
     ensures follow { LawfulItemsFollow }
 {}
 
-/// A list may be cut in two anywhere: what it comes to, and whether it is lawful.
+/// States that a list may be cut in two anywhere: in what it comes to, and in whether it is lawful.
 pub fn lists_are_joined()
     ensures in_turn { ListsAreFoldedInTurn }
     ensures lawful { LawfulListsJoin }
 {}
 
-/// A commit that may follow is published.
+/// States that a commit that may follow is published.
 pub fn commits_follow()
     ensures { CommitsFollow }
 {
@@ -61,7 +61,7 @@ pub fn commits_follow()
     batches_end_by_the_limit();
 }
 
-/// A log that takes commands begins an adopted topic, with the mark of ids that it owes.
+/// States that a log that takes commands begins an adopted topic, with the id mark that it owes.
 pub fn adopted_logs_begin()
     ensures { AdoptedLogsBegin }
 {
@@ -74,15 +74,15 @@ pub fn adopted_logs_begin()
     two_schemas_is_least();
 }
 
-/// A set that keeps each last record still does with more of the whole.
+/// States that a set which keeps each last record still does with more of the whole.
 pub fn more_keeps_lasts()
     ensures { MoreKeepsLasts }
 {
     records_are_ordered();
 }
 
-/// After every lawful list over an adopted base the registry takes commands, and two entries of one
-/// id that stood at any two moments have one schema.
+/// States that after every lawful list over an adopted base the registry takes commands, and that
+/// two entries of one id, at any two moments, have one schema.
 pub fn lawful_lists_keep_ids()
     ensures open { LawfulListsStayOpen }
     ensures ids { LawfulListsKeepIds }
@@ -93,15 +93,15 @@ pub fn lawful_lists_keep_ids()
     steps_stay_open();
 }
 
-/// In every lawful list each version that was registered without an id met the level then in force
-/// against the versions then live.
+/// States that in every lawful list each version that was registered without an id met the level
+/// then in force against the versions then live.
 pub fn lawful_lists_meet_levels()
     ensures { LawfulListsMeetLevels }
 {
     steps_meet_levels();
 }
 
-/// The log is the first one with all that lawful items published.
+/// States that the log is the first one with all that lawful items published.
 pub fn log_is_what_was_published()
     ensures { LogIsWhatWasPublished }
 {

@@ -3,24 +3,30 @@ use reg_leader::Command;
 use reg_leader::base_text::Listed;
 use reg_leader::reg_records::Record;
 
-/// The records that a command wrote, with the command. There is at least one.
+/// A command with the records that it wrote, of which there is at least one.
 #[derive(Debug, Drop, Clone)]
 pub struct Commit {
+    /// The command.
     pub command: Command,
+    /// The records, in their order.
     pub batch: Listed<Record>,
 }
 
-/// Records that leave the kept set, which then has that floor: a key whose last record deletes it below
-/// that may be missing as a whole.
+/// Records that leave the kept set, with its floor from then on. A key whose last record deletes it
+/// below the floor may be missing as a whole.
 #[derive(Debug, Drop, Clone)]
 pub struct Compaction {
+    /// The floor.
     pub floor: u64,
+    /// The records that leave.
     pub dropped: Listed<Record>,
 }
 
-/// What can be published.
+/// An item of the topic's list.
 #[derive(Debug, Drop, Clone)]
 pub enum Item {
+    /// A command wrote a batch.
     Commit(Commit),
+    /// Records left the kept set.
     Compaction(Compaction),
 }

@@ -15,17 +15,17 @@ use std::alloc::{AllocError, Global};
 pub struct Topic {
     /// All records that were ever published.
     pub log: RecordSet,
-    /// Those that were not compacted away, with the floor below which deletes may have been.
+    /// Those that weren't compacted away, with the floor below which deletes may have been.
     pub kept: KeptSet,
     /// The offset of the next record.
     pub next: u64,
-    /// What `next` was at the last compaction; where there was none, the floor of the base.
+    /// What `next` was at the last compaction, or the floor of the base if there was none.
     pub compacted: u64,
 }
 
 impl Topic {
-    /// The topic of a log's records alone, which are all kept, with its floor: the mark of ids that the
-    /// log owes isn't there yet. The only error is out of memory.
+    /// Makes the topic of a log's records alone, all of them kept, with the log's floor. The id
+    /// mark that the log owes isn't added. The only error is out of memory.
     pub fn of_log(alloc: Global, base: &Log) -> Result<Topic, AllocError>
         ensures { IfOk result (λ topic. topic ≡ plain_topic base.now.records.items base.now.next base.now.floor) }
     {
@@ -38,8 +38,8 @@ impl Topic {
         })
     }
 
-    /// Publishes an item; one that can't follow changes nothing. The only error is out of memory;
-    /// the topic is then as it was.
+    /// Publishes an item. An item that can't follow changes nothing. The only error is out of
+    /// memory; the topic hasn't changed then.
     pub fn publish(&mut self, alloc: Global, item: &Item) -> Result<(), AllocError>
         ensures published { OnOk result (self.new ≡ after_item self.old item.now) }
         ensures refused { OnErr result (self.new ≡ self.old) }
@@ -50,8 +50,8 @@ impl Topic {
         }
     }
 
-    /// Whether the kept set may have that floor without those records: the floor doesn't fall, isn't
-    /// ahead of the next offset, and what stays is a compaction. The only error is out of memory.
+    /// Returns whether the compaction may be published: the floor neither falls nor is ahead of the
+    /// next offset, and what stays is a compaction. The only error is out of memory.
     pub fn may_compact(&self, compaction: &Compaction) -> Result<bool, AllocError>
         ensures { IfOk result (λ may. may ≡ may_compact self.now compaction.now) }
     {
@@ -64,7 +64,7 @@ impl Topic {
         Ok(left.is_some())
     }
 
-    /// Publishes a batch, as `publish` does a commit of it.
+    /// Publishes a batch, as [`Topic::publish`] does a commit with it.
     pub fn publish_batch(&mut self, alloc: Global, batch: &[Record]) -> Result<(), AllocError>
         ensures added { OnOk result (self.new ≡ after_batch (follows self.old.next batch.now) self.old batch.now) }
         ensures refused { OnErr result (self.new ≡ self.old) }
@@ -81,7 +81,7 @@ impl Topic {
         Ok(())
     }
 
-    /// Publishes a compaction; one that may not be changes nothing.
+    /// Publishes a compaction. One that isn't allowed changes nothing.
     fn publish_compaction(&mut self, compaction: &Compaction) -> Result<(), AllocError>
         ensures compacted { OnOk result (self.new ≡ after_compaction (may_compact self.old compaction.now) self.old compaction.now) }
         ensures refused { OnErr result (self.new ≡ self.old) }
@@ -100,7 +100,7 @@ impl Topic {
     }
 }
 
-/// Whether the batch goes on at that offset, with none past the limit.
+/// Returns whether the batch's offsets go on from `next` without a gap, and none is past the limit.
 pub fn follows(next: u64, batch: &[Record]) -> bool
     ensures { result ≡ follows next batch.now }
 {
@@ -110,7 +110,7 @@ pub fn follows(next: u64, batch: &[Record]) -> bool
     }
 }
 
-/// Whether the records have that offset, the one after it, and so on.
+/// Returns whether the records' offsets are `expected`, the next one, and so on, from `next`.
 fn goes_on(next: u64, batch: &[Record]) -> bool
     requires { next + length batch.now ≤ suc OFFSET_LIMIT }
     ensures { result ≡ goes_on next batch.now }

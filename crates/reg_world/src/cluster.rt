@@ -28,14 +28,15 @@ use reg_topic::{Commit, Compaction, Item, Topic, lawful_items_follow};
 use std::alloc::{AllocError, Global};
 use std::marker::Model;
 
-/// A topic with the items that were published, at most one commit that isn't settled, and nodes.
+/// The state of a world: a topic with its published items, at most one commit that isn't settled,
+/// and nodes.
 #[derive(Debug, Drop)]
 pub(crate) struct Cluster {
     base: Topic,
     items: Vec<Item>,
     unsettled: Option<Commit>,
     nodes: Vec<WorldNode>,
-    // Over the items and the commit that isn't settled, which each later command settles first.
+    // Over the items and the unsettled commit, which each later command settles first.
     decided: Decided,
     // Over some of the items.
     folded: Folded,
@@ -64,7 +65,8 @@ impl Model for Cluster {
 }
 
 impl Cluster {
-    /// Nothing was published after the base, and no node has a record. The registry is the base's.
+    /// Makes the state in which nothing was published after the base and no node has a record. The
+    /// registry is the base's.
     pub(crate) fn start(
         alloc: Global,
         base: Topic,
@@ -87,27 +89,27 @@ impl Cluster {
         })
     }
 
-    /// The allocator that it keeps.
+    /// Returns the stored allocator.
     pub(crate) fn allocator(&self) -> Global {
         *self.items.allocator()
     }
 
-    /// What the topic began with.
+    /// Returns what the topic began with.
     pub(crate) fn base(&self) -> &Topic
         ensures { result.now ≡ self.now.base }
     {
         &self.base
     }
 
-    /// What was published since, in its order.
+    /// Returns what was published since, in its order.
     pub(crate) fn items(&self) -> &[Item]
         ensures { result.now ≡ self.now.items }
     {
         &self.items
     }
 
-    /// Does what the event says, where it is allowed. The only error is out of memory; all is then
-    /// as it was.
+    /// Does what the event says, if it is allowed. The only error is out of memory; nothing has
+    /// changed then.
     pub(crate) fn step(&mut self, event: &Event) -> Result<Outcome, AllocError>
         ensures happens { IfOk result (λ outcome. Happens self.old event.now outcome self.new) }
         ensures refused { OnErr result (self.new ≡ self.old) }
@@ -144,7 +146,7 @@ impl Cluster {
         Ok(Outcome::Replied(reply))
     }
 
-    /// What the command replies and writes, once what isn't settled is.
+    /// Decides what the command replies and writes, once the unsettled commit is published.
     fn decision(&self, command: &Command) -> Decision
         ensures { IsOutOfMemory result ⊎ IsStep (registry_of (topic_of (settled self.now))) (topic_of (settled self.now)).next command.now result.reply result.batch }
     {
@@ -158,7 +160,8 @@ impl Cluster {
         )
     }
 
-    /// Settles what wasn't, and does with the batch what its fate says. The reply is the caller's.
+    /// Publishes the unsettled commit, and does with the batch what its fate says. Returns the
+    /// caller's reply.
     fn settle_with(
         &mut self,
         command: &Command,
@@ -230,7 +233,7 @@ impl Cluster {
         self.take_kept(node, records, floor)
     }
 
-    /// Joins records that are kept to the node's, where that has the kept floor.
+    /// Adds kept records to the node's, if the node has the kept floor.
     fn take_kept(
         &mut self,
         node: usize,
@@ -294,7 +297,7 @@ impl Cluster {
         Ok(Outcome::Done)
     }
 
-    /// The node, where it is there, rebased on the kept set.
+    /// Returns the node, rebased on the kept set; `None` if there is no such node.
     fn rebased(&mut self, node: usize) -> Result<Option<WorldNode>, AllocError>
         ensures told { IfOk result (λ found. found ≡ option_map (rebasing (topic_of self.old).kept) (slice_get self.old.nodes node)) }
         ensures same { self.new ≡ self.old }
@@ -336,7 +339,7 @@ impl Cluster {
         self.nodes.get(node)
     }
 
-    /// Whether the compaction may be, once what isn't settled is.
+    /// Returns whether the compaction may be published once the unsettled commit is.
     fn may_compact(&mut self, compaction: &Compaction) -> Result<bool, AllocError>
         ensures told { IfOk result (λ may. may ≡ may_compact (topic_of (settled self.old)) compaction.now) }
         ensures same { self.new ≡ self.old }
@@ -354,7 +357,7 @@ impl Cluster {
         }
     }
 
-    /// The floor of the kept set. A batch doesn't change it.
+    /// Returns the floor of the kept set. A batch doesn't change it.
     fn kept_floor(&mut self) -> Result<u64, AllocError>
         ensures told { IfOk result (λ floor. floor ≡ (topic_of self.old).kept.floor) }
         ensures same { self.new ≡ self.old }
@@ -364,7 +367,7 @@ impl Cluster {
         Ok(self.folded.topic.kept.floor())
     }
 
-    /// Whether the records are kept.
+    /// Returns whether the records are kept.
     fn are_kept(&mut self, records: &[Record]) -> Result<bool, AllocError>
         ensures told { IfOk result (λ are. are ≡ list_all (contains (topic_of self.old).kept.records) records.now) }
         ensures same { self.new ≡ self.old }
@@ -374,7 +377,7 @@ impl Cluster {
         Ok(are_all_in(&self.folded.topic.kept, records))
     }
 
-    /// Publishes the commit that isn't settled.
+    /// Publishes the unsettled commit.
     fn settle(&mut self) -> Result<(), AllocError>
         ensures settled { OnOk result (self.new ≡ settled self.old) }
         ensures refused { OnErr result (self.new ≡ self.old) }
@@ -384,7 +387,7 @@ impl Cluster {
         Ok(())
     }
 
-    /// Publishes the commit that isn't settled, and then leaves the other one so.
+    /// Publishes the unsettled commit, and leaves the new one unsettled.
     fn leave_unsettled(&mut self, commit: Commit) -> Result<(), AllocError>
         requires { follows (topic_of (settled self.old)).next commit.batch ≡ true }
         ensures left { OnOk result (self.new ≡ leave_unsettled (settled self.old) commit) }
@@ -398,7 +401,7 @@ impl Cluster {
         Ok(())
     }
 
-    /// Publishes the commit that isn't settled, and then the other one.
+    /// Publishes the unsettled commit, and then the new one.
     fn publish_commit(&mut self, commit: Commit) -> Result<(), AllocError>
         requires { follows (topic_of (settled self.old)).next commit.batch ≡ true }
         ensures published { OnOk result (self.new ≡ publish (settled self.old) (published.Commit commit)) }
@@ -412,8 +415,8 @@ impl Cluster {
         Ok(())
     }
 
-    /// Publishes the commit that isn't settled, and then the compaction. The log stays as it is, and with
-    /// it the registry that commands step from.
+    /// Publishes the unsettled commit, and then the compaction. The log stays the same, and so does
+    /// the registry that commands step from.
     fn publish_compaction(&mut self, compaction: Compaction) -> Result<(), AllocError>
         ensures published { OnOk result (self.new ≡ publish (settled self.old) (published.Compaction compaction)) }
         ensures refused { OnErr result (self.new ≡ self.old) }
@@ -426,7 +429,7 @@ impl Cluster {
     }
 }
 
-/// Moves the commit that isn't settled to the end of the items, where there is room for it.
+/// Moves the unsettled commit to the end of the items. There is room for it.
 fn put_settling(items: &mut Vec<Item>, unsettled: &mut Option<Commit>)
     requires { vec_len items.old < vec_capacity items.old }
     ensures items { items.new.items ≡ items.old.items ++ settling unsettled.old }
@@ -449,7 +452,7 @@ fn new_nodes(alloc: Global, count: usize) -> Result<Vec<WorldNode>, AllocError>
     Ok(nodes)
 }
 
-/// The offset of the first record.
+/// Returns the offset of the first record.
 fn first_offset(batch: &Listed<Record>) -> Option<u64>
     ensures { result ≡ option_map (λ r. r.offset) (slice_get batch.now 0) }
 {
@@ -462,7 +465,7 @@ fn are_all_in(kept: &KeptSet, records: &[Record]) -> bool
     records.iter().all(|record| kept.contains(record))
 }
 
-/// Whether memory was refused: no step of a command replies so.
+/// Returns whether memory was refused. No step of a command replies so.
 fn is_no_memory(reply: &Reply) -> bool
     ensures { (result ≡ true) ↔ (reply.now ≡ replies.Refused no_memory) }
 {

@@ -23,8 +23,8 @@ use reg_alike::reg_values::{Decoded, decode, decode_value, values_are_of_keys};
 use reg_topic::{Item, Topic};
 use std::alloc::{AllocError, Global};
 
-/// What stands after all that the items published, taken record by record, where the entries of the
-/// base stood before. The only error is out of memory.
+/// Makes the entries after all that the items published, taken record by record over the entries of
+/// the base. The only error is out of memory.
 pub(crate) fn fold_eagerly(
     alloc: Global,
     base: &Topic,
@@ -39,7 +39,7 @@ pub(crate) fn fold_eagerly(
     Ok(standing)
 }
 
-/// A copy of each entry, by place. The only error is out of memory.
+/// Copies each entry, by place. The only error is out of memory.
 pub(crate) fn listed(alloc: Global, standing: &Entries) -> Result<Vec<Entry>, AllocError>
     ensures { IfOk result (λ found. found.items ≡ finmap.values standing.now) }
 {
@@ -57,7 +57,7 @@ fn copies_of(alloc: Global, entries: &[&Entry]) -> Result<Vec<Entry>, AllocError
     Ok(found)
 }
 
-/// The entries of a set of records.
+/// Makes the entries of a set of records.
 fn entries_of(alloc: Global, log: &RecordSet) -> Result<Entries, AllocError>
     ensures { IfOk result (λ standing. (p : Place) → finmap.get standing p ≡ standing_at p (entries (last_records log.now))) }
 {
@@ -67,7 +67,7 @@ fn entries_of(alloc: Global, log: &RecordSet) -> Result<Entries, AllocError>
     put_all(alloc, &found)
 }
 
-/// Each of some entries at its place, where no two of them have one place.
+/// Puts each entry at its place. No two of them have the same place.
 fn put_all(alloc: Global, entries: &[&Entry]) -> Result<Entries, AllocError>
     requires { (e f : Entry) → Contains (map (λ e. e.now) entries.now) e → Contains (map (λ e. e.now) entries.now) f → place_of e ≡ place_of f → e ≡ f }
     ensures { IfOk result (λ standing. (p : Place) → finmap.get standing p ≡ standing_at p (map (λ e. e.now) entries.now)) }
@@ -109,7 +109,7 @@ fn take_one(alloc: Global, standing: &mut Entries, given: &Record) -> Result<(),
     }
 }
 
-/// Takes a version's record: its entry stands at the place now, or nothing does.
+/// Takes a version's record: puts its entry at the place, or removes the entry there.
 fn take_version(
     alloc: Global,
     standing: &mut Entries,
@@ -131,7 +131,7 @@ fn take_version(
     }
 }
 
-/// The entry that a version's record puts at its place, if it puts one.
+/// Returns the entry that a version's record puts at its place, if it puts one.
 fn put_by(alloc: Global, given: &Record) -> Result<Option<Entry>, AllocError>
     ensures { IfOk result (λ found. found ≡ put_by given.now) }
 {
@@ -164,7 +164,7 @@ fn put_by(alloc: Global, given: &Record) -> Result<Option<Entry>, AllocError>
     }
 }
 
-/// That text, or the empty one.
+/// Returns the text, or the empty one.
 fn or_empty(text: Option<Text>) -> Text
     ensures { result ≡ option_map_or (λ text. text) text [] }
 {
@@ -174,7 +174,7 @@ fn or_empty(text: Option<Text>) -> Text
     }
 }
 
-/// Takes the record of a soft delete: it flags what stands now.
+/// Takes the record of a soft delete: it flags the entries that are there now.
 fn take_delete(alloc: Global, standing: &mut Entries, given: &Record) -> Result<(), AllocError>
     ensures { OnOk result ((p : Place) → finmap.get standing.new p ≡ option_map (flagged_by given.now) (finmap.get standing.old p)) }
 {
@@ -193,7 +193,7 @@ fn take_delete(alloc: Global, standing: &mut Entries, given: &Record) -> Result<
     }
 }
 
-/// Marks the entries of a subject up to a version.
+/// Flags the entries of a subject up to a version.
 fn flag_up_to(
     alloc: Global,
     standing: &mut Entries,
@@ -207,7 +207,7 @@ fn flag_up_to(
     Ok(())
 }
 
-/// The flags of the entries of a subject, once it is soft-deleted up to a version.
+/// Returns the flags of a subject's entries after a soft delete up to a version.
 fn flags_up_to(
     alloc: Global,
     standing: &Entries,
@@ -220,7 +220,7 @@ fn flags_up_to(
     flags_of(alloc, &found, greatest)
 }
 
-/// The flags of some entries, once their subject is soft-deleted up to a version.
+/// Returns the flags of these entries after a soft delete up to a version.
 fn flags_of(alloc: Global, entries: &[&Entry], greatest: u32) -> Result<Vec<Flag>, AllocError>
     ensures { IfOk result (λ flags. FlagsEach (λ e. e.soft || nat_le e.version greatest) flags.items (map (λ e. e.now) entries.now)) }
 {

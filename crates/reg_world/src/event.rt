@@ -1,4 +1,4 @@
-// What can happen, and what comes of it.
+// What can happen, and the outcomes.
 use reg_alike::base_text::Listed;
 use reg_alike::reg_leader::{Command, Reply};
 use reg_alike::reg_lookup::{Answer, Query};
@@ -9,25 +9,26 @@ use reg_alike::reg_records::Record;
 pub enum Fate {
     /// It is published now.
     Published,
-    /// Nobody knows whether it stands; it is published before anything else is.
+    /// Nobody knows whether it is kept. It is published before anything else is.
     Unsettled,
-    /// It never stands.
+    /// It is never published.
     Lost,
 }
 
-/// A step of the topic or of a node; nodes count from 0.
+/// A step of the topic or of a node. Nodes count from 0.
 #[derive(Debug, Drop)]
 pub enum Event {
-    /// What wasn't settled is published, and then the command steps from the whole log.
+    /// The unsettled commit is published, and then the command steps from the whole log.
     Command {
         node: usize,
         command: Command,
         fate: Fate,
     },
-    /// What wasn't settled is published, and then these records leave the kept set, whose floor stays.
-    /// Whether they may is judged with that published.
+    /// The unsettled commit is published, and then these records leave the kept set, whose floor
+    /// stays. Whether they may is judged after that commit.
     Compact(Listed<Record>),
-    /// As `Compact`, and the kept set has that floor then.
+    /// The unsettled commit is published, and then these records leave the kept set, which gets
+    /// this floor. Whether they may is judged after that commit.
     CompactTo {
         floor: u64,
         dropped: Listed<Record>,
@@ -37,32 +38,38 @@ pub enum Event {
         node: usize,
         records: Listed<Record>,
     },
-    /// The node keeps its last records alone.
+    /// The node keeps only the last record of each key.
     CompactNode(usize),
-    /// The node takes what the other one has.
+    /// The node takes all records of another node.
     MergeFrom {
         node: usize,
         other: usize,
     },
-    /// The node takes on the kept set's floor, and the kept records below it in place of its own.
+    /// The node takes the kept set's floor, and the kept records below it in place of its own.
     Rebase(usize),
-    /// The node loses what it has. Its floor is 0 then.
+    /// The node loses all its records. Its floor is 0 then.
     Restart(usize),
+    /// The node answers a query.
     Lookup {
         node: usize,
         query: Query,
     },
 }
 
-/// What comes of an event.
+/// The outcome of an event.
 #[derive(Debug, Drop)]
 pub enum Outcome {
+    /// A command got this reply.
     Replied(Reply),
+    /// A query got this answer.
     Answered(Answer),
+    /// The event happened.
     Done,
-    /// A node isn't there, a record isn't kept, the floor would fall or be ahead of the next offset, or
-    /// what would stay is no compaction at that floor. Nothing changed.
+    /// The event isn't allowed, and nothing changed: a node doesn't exist, a record isn't kept, the
+    /// floor would fall or be ahead of the next offset, or what would stay isn't a compaction at
+    /// that floor.
     NotAllowed,
-    /// It is allowed, but the sets that it brings together have unequal floors. Nothing changed.
+    /// The event is allowed, but the sets that it brings together have different floors. Nothing
+    /// changed.
     FloorsDiffer,
 }

@@ -1,4 +1,4 @@
-// What a cluster folds of its items: the registry at once, and the sets when they are asked for.
+// What a cluster folds of its items: the registry at once, and the sets when they are needed.
 ghost use Rattle.std.specs.Prelude.{◌≡◌, ◌+◌, ◌≤◌, suc, length, take, OnErr, OnOk};
 ghost use Rattle.std.specs.FinSet.{from_list, union};
 ghost use Rattle.reg_alike.specs.reg_records.declared.limits.TheConstants.{OFFSET_LIMIT};
@@ -20,7 +20,7 @@ pub(crate) struct Decided {
 }
 
 impl Decided {
-    /// Adds a batch. The only error is out of memory; all is then as it was.
+    /// Adds a batch. The only error is out of memory; nothing has changed then.
     pub(crate) fn add(&mut self, batch: &[Record]) -> Result<(), AllocError>
         requires { self.old.next + length batch.now ≤ suc OFFSET_LIMIT }
         ensures registry { OnOk result ((log : Records) → self.old.registry ≡ last_records log
@@ -34,16 +34,16 @@ impl Decided {
     }
 }
 
-/// What the first items of a list come to. It lags behind the list until its sets are asked for.
+/// What the first items of a list come to. It lags behind the list until its sets are needed.
 #[derive(Debug, Drop)]
 pub(crate) struct Folded {
     pub(crate) topic: Topic,
-    /// How many items those are.
+    /// How many items these are.
     pub(crate) count: usize,
 }
 
 impl Folded {
-    /// Folds the items that are left. The only error is out of memory; some may then be left.
+    /// Folds the items that are left. The only error is out of memory; some may be left then.
     pub(crate) fn catch_up(&mut self, alloc: Global, items: &[Item]) -> Result<(), AllocError>
         requires { self.old.count ≤ length items.now }
         ensures within { self.new.count ≤ length items.now }

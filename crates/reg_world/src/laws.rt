@@ -1,5 +1,5 @@
-// What holds after every list of events. What is proved here costs nothing at run time: a function
-// that needs a law calls it.
+// What holds after every list of events. The laws cost nothing at run time: a function that needs a
+// law calls it.
 ghost use Rattle.reg_world.specs.Core.{KeptIsCompaction, LogIsLawful, NoItemIsSkipped, NodesAreCompactions, RefusedExactly, UnsettledComesFirst, UnsettledCounts, UnsettledGoesOn};
 ghost use Rattle.reg_world.specs.Eager.{EagerFoldingIsRight};
 ghost use Rattle.reg_world.specs.Headline.{AnswersAreOfTheSet, CaughtUpNodesAnswerAsTheLog, Ids, Levels, Merging, NodesCatchUp, SameAnswers, TakersOfAllCatchUp, WorldsKeepTheHeadline};
@@ -24,7 +24,7 @@ use reg_topic::{
     log_is_what_was_published,
 };
 
-/// The laws of the crates below.
+/// Gathers the laws of the crates below.
 fn lower_laws()
     ensures { LowerLaws }
 {
@@ -44,8 +44,9 @@ fn lower_laws()
     log_is_what_was_published();
 }
 
-/// After every list of events the log is lawful, with all that was published, the kept set is a
-/// compaction of it, and each node's set is one of what it took, at a floor that isn't ahead.
+/// States that after every list of events the log is lawful and has all that was published, the
+/// kept set is a compaction of it, and each node's set is a compaction of what the node took, at a
+/// floor that isn't ahead.
 pub fn every_list_of_events_is_lawful()
     ensures log { LogIsLawful }
     ensures whole { NoItemIsSkipped }
@@ -55,15 +56,15 @@ pub fn every_list_of_events_is_lawful()
     lower_laws();
 }
 
-/// An event is refused exactly where it isn't allowed or brings together sets of unequal floors, and
-/// then changes nothing.
+/// States that an event is refused exactly if it isn't allowed or brings together sets of different
+/// floors, and that it changes nothing then.
 pub fn events_are_refused_exactly()
     ensures { RefusedExactly }
 {}
 
-/// What isn't settled is published first by the next command or compaction that is allowed, which
-/// counts it already: it is judged, and happens, as if that were in the log. Whatever else happens
-/// leaves it unsettled.
+/// States that the unsettled commit is published first by the next command or compaction that is
+/// allowed, which is judged, and happens, as if that commit were in the log. Everything else leaves
+/// it unsettled.
 pub fn unsettled_comes_first()
     ensures first { UnsettledComesFirst }
     ensures counts { UnsettledCounts }
@@ -72,8 +73,8 @@ pub fn unsettled_comes_first()
     lower_laws();
 }
 
-/// A node answers as the set does of which it took a compaction, so nodes that took one set answer
-/// alike.
+/// States that a node answers as the set does of which it took a compaction, so nodes that took one
+/// set answer alike.
 pub fn nodes_answer_alike()
     ensures of_the_set { AnswersAreOfTheSet }
     ensures alike { SameAnswers }
@@ -82,8 +83,9 @@ pub fn nodes_answer_alike()
     queries_have_one_answer();
 }
 
-/// A node that took a compaction of the log answers as the whole log does, and so does one at the kept
-/// floor that took all that is kept, or that has the last kept record of each key.
+/// States that a node that took a compaction of the log answers as the whole log does, and so does
+/// a node at the kept floor that took all kept records, or that has the last kept record of each
+/// key.
 pub fn caught_up_nodes_answer_as_the_log()
     ensures all { TakersOfAllCatchUp }
     ensures answers { CaughtUpNodesAnswerAsTheLog }
@@ -92,7 +94,7 @@ pub fn caught_up_nodes_answer_as_the_log()
     lower_laws();
 }
 
-/// Two versions of one id that stood at any two moments have one schema, soft ones too.
+/// States that two versions of one id, at any two moments, have one schema; soft-deleted ones too.
 pub fn ids_name_one_schema()
     ensures { Ids }
 {
@@ -100,7 +102,7 @@ pub fn ids_name_one_schema()
     lawful_lists_keep_ids();
 }
 
-/// Each version that was registered met the level then in force.
+/// States that each registered version met the level then in force.
 pub fn registered_versions_meet_levels()
     ensures { Levels }
 {
@@ -108,8 +110,8 @@ pub fn registered_versions_meet_levels()
     lawful_lists_meet_levels();
 }
 
-/// Taken one after the other, the records of the log give the entries of the log, and of each
-/// compaction of it, at whatever floor, with their soft flags.
+/// States that the records of the log, taken one after the other, give the entries of the log and
+/// of each of its compactions, at any floor, with their soft flags.
 pub fn eager_folding_is_right()
     ensures { EagerFoldingIsRight }
 {
@@ -125,7 +127,8 @@ pub fn eager_folding_is_right()
     written_values_read_back();
 }
 
-/// Merging at equal floors is commutative, associative and idempotent, and so are answers.
+/// States that merging at equal floors is commutative, associative and idempotent, and that answers
+/// don't depend on the order of merges.
 pub fn merging_answers_alike()
     ensures { Merging }
 {
@@ -134,12 +137,12 @@ pub fn merging_answers_alike()
     compactions_answer_alike();
 }
 
-/// An item that may follow is an event that happens and publishes it.
+/// States that an item that may follow is an event that happens and publishes it.
 pub fn items_happen()
     ensures { ItemsHappen }
 {}
 
-/// The claims of one world hold of each that a list of events leads to.
+/// States that the claims about one world hold of each world that a list of events leads to.
 pub fn worlds_keep_the_headline()
     ensures { WorldsKeepTheHeadline }
 {

@@ -1,4 +1,21 @@
-//! A topic and the nodes that take from it, over any list of events.
+//! A model of a replicated registry, which can be run: a topic, its nodes, and every event that may
+//! happen to them.
+//!
+//! A [`World`] begins with a log and a number of nodes. Events are commands, compactions, nodes
+//! that take kept records in any order and repeatedly, merges between nodes, rebases, restarts and
+//! lookups; a batch may be published, unsettled or lost.
+//!
+//! One idea: nothing is assumed about the order of events. Whatever list of events is run, the
+//! claims hold: the log is lawful, an id names one schema for good, each registered version met its
+//! level, and a node answers as the set does of which it took a compaction.
+//!
+//! It is a model for proofs and tests, with plain and slow code. The running registry is elsewhere;
+//! `reg_running` proves that what it does is such a list of events.
+//!
+//! [`World::step`] and [`World::run`] carry the theorem in their clause `keeps`; the law behind it
+//! is [`worlds_keep_the_headline`].
+//!
+//! Tests: `world_cases`.
 #![tactic(auto)]
 
 mod cluster;

@@ -7,16 +7,17 @@ use reg_alike::reg_floored::KeptSet;
 use reg_alike::reg_set::RecordSet;
 use std::alloc::{AllocError, Global};
 
-/// A node's set, beside all records that joined it since its last restart.
+/// A node: its set, and all records that joined it since its last restart.
 #[derive(Debug, Drop)]
 pub struct WorldNode {
+    /// Its records, with their floor.
     pub set: KeptSet,
-    /// Where the set was rebased, what was taken was too.
+    /// All records that joined it; a rebase of the set rebases these too.
     pub took: RecordSet,
 }
 
 impl WorldNode {
-    /// A node without records, at the floor 0.
+    /// Makes a node without records, at the floor 0.
     pub(crate) fn new(alloc: Global) -> WorldNode
         ensures { result ≡ no_records }
     {
@@ -26,7 +27,7 @@ impl WorldNode {
         }
     }
 
-    /// The node with those records too. Its floor stays.
+    /// Returns the node with these records added. Its floor stays. The only error is out of memory.
     pub(crate) fn taking(&self, more: &RecordSet) -> Result<WorldNode, AllocError>
         ensures { IfOk result (λ node. node ≡ taking more.now self.now) }
     {
@@ -37,7 +38,8 @@ impl WorldNode {
         Ok(WorldNode { set, took })
     }
 
-    /// The node with its last records alone. Its floor stays.
+    /// Returns the node with only the last record of each key. Its floor stays. The only error is
+    /// out of memory.
     pub(crate) fn compacted(&self) -> Result<WorldNode, AllocError>
         ensures { IfOk result (λ node. node ≡ compacted self.now) }
     {
@@ -47,8 +49,8 @@ impl WorldNode {
         Ok(WorldNode { set, took })
     }
 
-    /// The node at the floor of the kept set, with the kept records below it in place of its own, and
-    /// in place of what it took there.
+    /// Returns the node at the floor of the kept set, with the kept records below it in place of
+    /// its own and of those that it took there. The only error is out of memory.
     pub(crate) fn rebasing(&self, kept: &KeptSet) -> Result<WorldNode, AllocError>
         ensures { IfOk result (λ node. node ≡ rebasing kept.now self.now) }
     {
@@ -61,14 +63,15 @@ impl WorldNode {
     }
 }
 
-/// Those records from the kept set's floor on, and the kept ones below it, at that floor.
+/// Returns these records from the kept set's floor on, and the kept ones below it, at that floor.
+/// The only error is out of memory.
 fn rebased(own: &RecordSet, kept: &KeptSet) -> Result<KeptSet, AllocError>
     ensures { IfOk result (λ found. found ≡ record { records = rebased own.now kept.now; floor = kept.now.floor }) }
 {
     let mut found = KeptSet::of(own.clone()?, 0);
     match found.rebase(kept) {
         Ok(()) => Ok(found),
-        // No floor is below 0, so that it is memory that was refused.
+        // No floor is below 0, so the refusal is of memory.
         Err(_refused) => Err(AllocError),
     }
 }

@@ -33,11 +33,12 @@ use std::marker::Model;
 
 /// A topic with its nodes, after some list of events.
 ///
-/// Wherever the events lead, the log is lawful, with all that was published, the kept set is a
-/// compaction of it, each node answers as the set does of which it took a compaction, so as the log
-/// if it has the kept floor and took all that is kept, or has the last kept record of each key, an id
-/// names one schema for good, each registered version met its level, and the log's records, taken one
-/// after the other, give its entries.
+/// Whatever the events, these hold:
+/// - The log is lawful and has all that was published, and the kept set is a compaction of it.
+/// - Each node answers as the set does of which it took a compaction. It answers as the log if it
+///   has the kept floor and took all kept records, or has the last kept record of each key.
+/// - An id names one schema for good, and each registered version met its level.
+/// - The log's records, taken one after the other, give its entries.
 #[derive(Debug, Drop)]
 pub struct World {
     cluster: Cluster,
@@ -60,7 +61,7 @@ impl Model for World {
 /// Why a run of events ended early.
 #[derive(Clone, Copy, Debug, PartialEq, Eq)]
 pub enum RunError {
-    /// Memory was refused, after so many events.
+    /// Memory was refused after `done` events.
     OutOfMemory { done: usize },
 }
 
@@ -77,8 +78,9 @@ impl fmt::Display for RunError {
 impl Error for RunError {}
 
 impl World {
-    /// A world over a base, whose nodes have no record. Its topic begins with the base and the mark of
-    /// ids that the base owes. A base that isn't adopted is refused.
+    /// Makes a world over a base, whose nodes have no record. Its topic begins with the base and
+    /// the id mark that the base owes. Refused if the base can't begin a topic, or if memory is
+    /// refused.
     pub fn start(alloc: Global, nodes: usize, base: &Log) -> Result<World, AdoptError>
         ensures start { IfOk result (λ w. w ≡ start (topic_from base.now.records.items base.now.next base.now.floor) nodes) }
         ensures place { OnOk result (HasPlace (last_records (from_list base.now.records.items)) base.now.next) }
@@ -97,8 +99,8 @@ impl World {
         Ok(world)
     }
 
-    /// Does what the event says, where it is allowed. The only error is out of memory; the world
-    /// is then as it was.
+    /// Does what the event says, if it is allowed. The only error is out of memory; the world
+    /// hasn't changed then.
     pub fn step(&mut self, event: &Event) -> Result<Outcome, AllocError>
         ensures happens { IfOk result (λ outcome. Happens self.old event.now outcome self.new) }
         ensures not_allowed { IfOk result (λ outcome. (outcome ≡ Outcome.NotAllowed)
@@ -113,10 +115,11 @@ impl World {
         self.cluster.step(event)
     }
 
-    /// Does the events in turn. An error leaves the world where the events that were done lead.
+    /// Does the events in turn, and returns their outcomes. An error leaves the world where the
+    /// events that were done lead.
     ///
-    /// An item that can't follow on those before it would be skipped in the log. None is: the log has
-    /// all that the items published.
+    /// An item that can't follow on those before it would be skipped in the log. There is none: the
+    /// log has all that the items published.
     pub fn run(&mut self, events: &[Event]) -> Result<Vec<Outcome>, RunError>
         ensures runs { IfOk result (λ outcomes. Runs self.old events.now outcomes.items self.new) }
         ensures refused { IfErr result (λ error. IsStopped self.old events.now error self.new) }
@@ -128,19 +131,19 @@ impl World {
         outcomes
     }
 
-    /// Each world is where some list of events leads, over an adopted base, so that what holds after
-    /// every list of events holds of it. This does nothing, and takes no memory.
+    /// States that this world is where some list of events leads, over an adopted base, so what
+    /// holds after every list of events holds of it. Does nothing, and takes no memory.
     pub fn is_reached(&self)
         ensures { IsReached self.now }
     {
         let _ = &self.cluster;
     }
 
-    /// The entries of the log, by subject, by its bytes, and then by version. The log's records are
-    /// taken one after the other, each version's as it comes, and a soft delete flags what stands
-    /// then. The only error is out of memory.
+    /// Returns the entries of the log, by subject, by its bytes, and then by version. The log's
+    /// records are taken one after the other: each version's as it comes, and a soft delete flags
+    /// the entries that are there then. The only error is out of memory.
     ///
-    /// They are those of a registry over the log, which looks at last records alone.
+    /// They are the entries of a registry over the log, which looks at last records only.
     pub fn eager_entries(&self) -> Result<Vec<Entry>, AllocError>
         ensures eager { IfOk result (λ found. (e : Entry) → Contains found.items e ↔ (eager self.now (place_of e) ≡ Some e)) }
         ensures right { IfOk result (λ found. found.items ≡ entries (registry_of (topic_of self.now))) }
@@ -173,8 +176,8 @@ impl World {
     }
 }
 
-/// Publishes what is due, and adds it to the registry over the topic's log. What doesn't go on at
-/// the next offset changes nothing. The only error is out of memory.
+/// Publishes what is due, and adds it to the registry over the topic's log. Records that don't go
+/// on at the next offset change nothing. The only error is out of memory.
 fn publish_due(
     alloc: Global,
     topic: &mut Topic,

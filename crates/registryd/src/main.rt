@@ -1,9 +1,12 @@
 //! The program `registryd`: a registry of Avro schemas.
 //!
-//! `registryd fold` reads a log and the requests after its empty line from its input, and writes the
-//! responses to its output. `registryd sketch` reads a reader's schema and a writer's, one a line, and
-//! writes what the reader makes of what the writer writes. `registryd serve PORT NODES WORKERS`
-//! listens, and serves an empty topic until it is stopped.
+//! `registryd fold` reads a log, and the requests after its empty line, from standard input, and
+//! writes the responses to standard output. `registryd sketch` reads a reader's schema and a
+//! writer's, one a line, and writes how the reader sees the writer's data. `registryd serve PORT
+//! NODES WORKERS` serves an empty topic in memory until it is stopped.
+//!
+//! This crate only ties together what the program gets from its system; `reg_program` reads the
+//! arguments, and `reg_node_service` serves.
 #![tactic(auto)]
 
 mod serving;

@@ -9,10 +9,11 @@ use std::sync::Wait;
 use std::thread::Threads;
 use std::time::Clock;
 
-/// Serves at so many ports of 127.0.0.1 by nodes of so many workers, and returns the exit status.
+/// Serves at `nodes` ports of 127.0.0.1, from `port` on, each by a node of `workers` workers, and
+/// returns the exit status.
 ///
-/// It returns only where the nodes can't be started: what is wrong is then a line on standard error,
-/// and the status is 1, also where that line can't be written.
+/// It returns only if the nodes can't be started: the error is then a line on standard error, and
+/// the status is 1, even if that line can't be written.
 pub(crate) fn serve_ports<
     R: Threads
         + Wait
@@ -46,7 +47,7 @@ pub(crate) fn serve_ports<
     }
 }
 
-/// Ports of 127.0.0.1, one a node.
+/// Ports of 127.0.0.1, one for each node.
 #[derive(Drop)]
 struct Ports<R: Drop> {
     rt: R,
