@@ -1,4 +1,4 @@
-// The desk of a fold: one registry, and the offset that comes next.
+// The desk (request handler) of a fold: one registry, and the next offset.
 ghost use Rattle.std.specs.Prelude.{◌≡◌, ◌⊎◌, ◌≤◌, ◌+◌, suc, [], length, OnOk, OnErr};
 ghost use Rattle.reg_records.specs.declared.limits.TheConstants.{OFFSET_LIMIT};
 ghost use Rattle.reg_program.specs.Desk.{with_batch};
@@ -10,7 +10,7 @@ use reg_lookup::{Answer, Query, answer};
 use reg_records::Record;
 use std::alloc::{AllocError, Global};
 
-/// A desk over one registry, which keeps what commands write.
+/// A request handler over one registry, which applies what commands write.
 #[derive(Debug, Drop)]
 pub struct FoldDesk {
     pub alloc: Global,
@@ -20,7 +20,7 @@ pub struct FoldDesk {
 }
 
 impl FoldDesk {
-    /// Adds the records of a batch, all or none.
+    /// Adds the records of a batch, all or none. The only error is out of memory.
     fn write(&mut self, batch: &[Record]) -> Result<(), AllocError>
         requires { (batch.now ≡ []) ⊎ (self.old.next + length batch.now ≤ suc OFFSET_LIMIT) }
         ensures written { OnOk result (self.new ≡ with_batch self.old batch.now) }

@@ -10,15 +10,20 @@ use std::fmt;
 /// How the program ends.
 #[derive(Debug, Drop)]
 pub enum Ended {
+    /// The words weren't a command.
     Usage,
+    /// A fold ended well.
     Folded(Folded),
+    /// A fold failed.
     Failed(FoldError),
+    /// A sketch was written.
     Sketched,
+    /// A sketch failed.
     Unsketched(SketchError),
 }
 
 impl Ended {
-    /// The exit status.
+    /// Returns the exit status: 0 if all went well, 2 for wrong words or input, else 1.
     pub fn status(&self) -> u8
         ensures { result ≡ exit_status self.now }
     {

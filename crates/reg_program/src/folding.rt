@@ -24,23 +24,24 @@ use std::io::BufRead;
 /// What a fold did.
 #[derive(Clone, Copy, Debug, PartialEq, Eq)]
 pub struct Folded {
-    /// How many lines of the log have a key of no kind known here.
+    /// How many lines of the log have a key of an unknown kind.
     pub foreign: u64,
     /// How many responses were written.
     pub requests: u64,
 }
 
-/// Why a fold ended before its end.
+/// Why a fold failed.
 #[derive(Clone, Copy, Debug, PartialEq, Eq)]
 pub enum FoldError {
-    /// The first line of the log that has a fault; lines count from 1. Nothing was written.
+    /// The first faulty line of the log; lines count from 1. Nothing was written.
     Log { line: u64, fault: LogFault },
-    /// The reader failed, or was read too often for a line or for a request. The responses to all
-    /// requests before were written.
+    /// The reader failed, or took too many reads for a line or a request. The responses to all
+    /// earlier requests were written.
     ReadFault,
-    /// The writer failed, or was interrupted too often in a row. A front of a response was written.
+    /// The writer failed, or was interrupted too often in a row. A prefix of a response was
+    /// written.
     WriteFault,
-    /// The log didn't find room. Nothing was written.
+    /// Memory for the log was refused. Nothing was written.
     OutOfMemory,
 }
 
@@ -54,12 +55,14 @@ impl From<AllocError> for FoldError {
     }
 }
 
-/// Reads a log, and answers the requests after its empty line, one after the other, from the registry
-/// over its records; what a command writes counts for the requests after it.
+/// Reads a log, and answers the requests after its empty line, one after the other, from the
+/// registry over its records. What a command writes counts for later requests.
 ///
-/// The log is read to its end before the first byte is written. Over a log that takes commands an id
-/// never changes its meaning by what they write, and each version that is registered meets the level
-/// in force against the live versions.
+/// The whole log is read before the first byte is written. If the log takes commands, an id never
+/// changes its meaning by what they write, and each registered version meets the level in force
+/// against the live versions.
+///
+/// Fails at a faulty line, if the reader or the writer fails, or if memory for the log is refused.
 pub fn fold<R: BufRead, W: Output>(
     alloc: Global,
     reader: &mut Device<R>,
@@ -140,7 +143,7 @@ fn ended_by(e: ServeError) -> FoldError
     }
 }
 
-/// The registry over the set of some records.
+/// Makes the registry over the set of the records. The only error is out of memory.
 fn registry_of(alloc: Global, records: &[Record]) -> Result<Registry, AllocError>
     ensures { IfOk result (λ registry. registry ≡ last_records (set.from_list records.now)) }
 {

@@ -5,9 +5,9 @@ use std::io::{BufRead, Write};
 
 /// What a program is started with: its words, and its three standard streams.
 ///
-/// What a call may answer is a relation that a function over any invocation knows nothing of. So where its
-/// contract speaks of the words or of a stream, it can neither leave out the call, nor take another stream in
-/// that one's place. The same holds of what a stream gives and takes.
+/// Each call's result is described by a relation that functions over any invocation know nothing
+/// about. So if a contract speaks of the words or of a stream, the function has to make that call,
+/// and can't use another stream instead. The same holds of what a stream gives and takes.
 pub trait Invocation {
     type Reader: BufRead + Drop;
 
@@ -28,19 +28,20 @@ pub trait Invocation {
 
     ghost has_errors: { Self → Self.Errors → Type 0 };
 
-    /// The words of the command line, of which the first is the program's name.
+    /// Returns the words of the command line; the first is the program's name. The only error is
+    /// out of memory.
     fn words(&self, alloc: Global) -> Result<Vec<String>, AllocError>
         ensures { has_words self.now result };
 
-    /// Standard input.
+    /// Opens standard input. The only error is out of memory.
     fn input(&self, alloc: Global) -> Result<Self::Reader, AllocError>
         ensures { has_input self.now result };
 
-    /// Standard output.
+    /// Opens standard output. The only error is out of memory.
     fn output(&self, alloc: Global) -> Result<Self::Writer, AllocError>
         ensures { has_output self.now result };
 
-    /// Standard error.
+    /// Returns standard error.
     fn errors(&self) -> Self::Errors
         ensures { has_errors self.now result };
 }

@@ -1,4 +1,4 @@
-// The program: what its arguments ask for is done, and how that ended is reported.
+// Runs the command that the words ask for, and reports how it ended.
 ghost use Rattle.std.specs.Prelude.{map, string_bytes};
 ghost use Rattle.reg_program.specs.Running.{EndsAs, FoldGives, Runs, SketchGives};
 ghost use Rattle.reg_program.specs.Words.{command_of};
@@ -12,13 +12,12 @@ use reg_records::{Device, Output};
 use std::alloc::Global;
 use std::io::{BufRead, Write};
 
-/// Does what the arguments ask for, tells on `errors` how that ended, and returns the
-/// exit status.
+/// Does what the words ask for, reports on `errors` how that ended, and returns the exit status.
 ///
-/// Where the arguments are not a command nothing is read, and only `errors` is written to. `serve` is
-/// called where the words ask for nodes that serve, with the first port, the number of nodes and the
-/// number of workers of a node; its result is the status then, and it tells of its end by itself. A
-/// fault of `errors` changes no status.
+/// If the words aren't a command, nothing is read, and only `errors` is written to. `serve` is
+/// called if the words ask to serve, with the first port, the number of nodes and the number of
+/// workers of a node; its result is the status then, and it reports its end itself. A fault of
+/// `errors` doesn't change the status.
 pub fn run<R: BufRead, W: Output, E: Write, S: FnMut(u64, u64, u64) -> u8>(
     alloc: Global,
     words: &[String],
@@ -49,7 +48,7 @@ pub fn run<R: BufRead, W: Output, E: Write, S: FnMut(u64, u64, u64) -> u8>(
     }
 }
 
-/// Folds, and says how that ended.
+/// Folds, and returns how that ended.
 fn fold_end<R: BufRead, W: Output>(
     alloc: Global,
     reader: &mut Device<R>,
@@ -63,7 +62,7 @@ fn fold_end<R: BufRead, W: Output>(
     }
 }
 
-/// Sketches, and says how that ended.
+/// Sketches, and returns how that ended.
 fn sketch_end<R: BufRead, W: Write>(
     alloc: Global,
     reader: &mut Device<R>,
@@ -77,7 +76,7 @@ fn sketch_end<R: BufRead, W: Write>(
     }
 }
 
-/// Tells how the program ends, and returns its exit status.
+/// Reports how the program ends, and returns its exit status.
 pub(crate) fn end<E: Write>(errors: &mut Device<E>, ended: &Ended) -> u8
     ensures { EndsAs E.contents errors.old errors.new result ended.now }
 {

@@ -13,18 +13,19 @@ use reg_records::{Device, LINE_READS};
 use std::alloc::{AllocError, Global};
 use std::io::{BufRead, Write};
 
-/// Why no sketch was written whole.
+/// Why no complete sketch was written.
 #[derive(Debug, Drop)]
 pub enum SketchError {
-    /// The first line spells no schema. Nothing was written.
+    /// The first line isn't a schema. Nothing was written.
     Reader(SpellingFault),
-    /// The first line spells a schema, and the second doesn't. Nothing was written.
+    /// The first line is a schema, and the second isn't. Nothing was written.
     Writer(SpellingFault),
-    /// The reader failed, or was read too often for a line. Nothing was written.
+    /// The reader failed, or took too many reads for a line. Nothing was written.
     ReadFault,
-    /// The writer failed, or was interrupted too often in a row. A front of the sketch was written.
+    /// The writer failed, or was interrupted too often in a row. A prefix of the sketch was
+    /// written.
     WriteFault,
-    /// The lines or the sketch didn't find room. Nothing was written.
+    /// Memory for the lines or the sketch was refused. Nothing was written.
     OutOfMemory,
 }
 
@@ -38,11 +39,13 @@ impl From<AllocError> for SketchError {
     }
 }
 
-/// Reads a reader's schema from the first line of `reader` and a writer's from the second, and writes
-/// their sketch: whether the reader reads all that the writer writes, and what it reads of one value.
+/// Reads a reader's schema from the first line of `reader` and a writer's from the second, and
+/// writes their sketch: whether the reader reads all that the writer writes, and what it reads of
+/// one value.
 ///
-/// What stands after the second line is left unread. The memory that the sketch takes is taken before
-/// its first byte is written. Its text is nowhere whole: names are shared, and it is written in pieces.
+/// What follows the second line is left unread. All memory that the sketch needs is taken before
+/// its first byte is written. The text is never in memory as a whole: names are shared, and it is
+/// written in pieces.
 pub fn sketch<R: BufRead, W: Write>(
     alloc: Global,
     reader: &mut Device<R>,
@@ -66,7 +69,7 @@ pub fn sketch<R: BufRead, W: Write>(
     }
 }
 
-/// The text of the sketch.
+/// Makes the text of the sketch.
 fn sketch_of<R: BufRead>(alloc: Global, reader: &mut Device<R>) -> Result<PiecedText, SketchError>
     ensures text { IfOk result (λ text. IfSome (bytes_in R.remaining reader.old) (λ input. Sketches input text)) }
     ensures rest { OnOk result (LeavesRest (bytes_in R.remaining reader.old) (bytes_in R.remaining reader.new)) }
@@ -85,7 +88,7 @@ fn sketch_of<R: BufRead>(alloc: Global, reader: &mut Device<R>) -> Result<Pieced
     Ok(sketch_text(alloc, &r, &w)?)
 }
 
-/// Why the reader's schema wasn't read.
+/// Returns why the reader's schema wasn't read.
 fn as_readers(error: SpellingError) -> SketchError
     ensures { result ≡ as_readers error }
 {
@@ -96,7 +99,7 @@ fn as_readers(error: SpellingError) -> SketchError
     }
 }
 
-/// Why the writer's schema wasn't read.
+/// Returns why the writer's schema wasn't read.
 fn as_writers(error: SpellingError) -> SketchError
     ensures { result ≡ as_writers error }
 {

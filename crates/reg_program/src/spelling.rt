@@ -1,4 +1,4 @@
-// Lines that spell schemas.
+// Lines that are schemas.
 ghost use Rattle.std.specs.Prelude.{◌≡◌, ◌≤◌, Some, IfOk, IfErr, IfSome, OnOk};
 ghost use Rattle.reg_records.specs.Device.{KeepsReads, bytes_in, faults_of, reads_of};
 ghost use Rattle.reg_records.specs.TextLine.{after_front};
@@ -12,17 +12,17 @@ use reg_records::{Device, LINE_READS, LineError, TextLineError, read_text_line};
 use std::alloc::Global;
 use std::io::BufRead;
 
-/// Why a line spells no schema.
+/// Why a line isn't a schema.
 #[derive(Debug, Drop)]
 pub enum SpellingFault {
-    /// It is no whole line of text: `Truncated`, `TooLong` or `BadUtf8`.
+    /// It isn't a complete line of text: `Truncated`, `TooLong` or `BadUtf8`.
     Line(LineError),
-    /// Its text is no schema's.
+    /// Its text isn't a schema.
     Schema(SchemaError),
 }
 
 impl SpellingFault {
-    /// Its name, as it is reported.
+    /// Returns its name, as it is reported.
     pub fn name(&self) -> &'static str
         ensures { result.now ≡ spelling_fault_name self.now }
     {
@@ -36,13 +36,15 @@ impl SpellingFault {
 /// Why no schema was read.
 #[derive(Debug, Drop)]
 pub(crate) enum SpellingError {
+    /// The line isn't a schema.
     Fault(SpellingFault),
-    /// The reader failed, or was read too often for the line.
+    /// The reader failed, or took too many reads for the line.
     ReadFault,
+    /// Memory was refused.
     OutOfMemory,
 }
 
-/// Reads the schema that the line at the front of `reader` spells. Defaults aren't checked.
+/// Reads the schema in the next line of `reader`. Defaults aren't checked.
 pub(crate) fn read_schema<R: BufRead>(
     alloc: Global,
     reader: &mut Device<R>,
@@ -62,7 +64,7 @@ pub(crate) fn read_schema<R: BufRead>(
     }
 }
 
-/// The schema that a text spells.
+/// Reads the schema of a text.
 fn schema_of(alloc: Global, text: &str) -> Result<Schema, SpellingError>
     ensures schema { IfOk result (λ schema. schema_of text.now ≡ Some schema) }
     ensures refused { IfErr result (IsTextRefused text.now) }

@@ -14,15 +14,15 @@ use std::alloc::{AllocError, Global};
 use std::io::{BufRead, Eprint, Write};
 use std::process::{ExitCode, Termination};
 
-/// How the program ended. Only `start` makes one, so that a `main` which returns it can't end otherwise. None can be
-/// dropped: what `start` gave is returned, or else turned into an exit status.
+/// How the program ended. Only [`start`] makes one, so a `main` that returns one can't end
+/// otherwise. None can be dropped: it is returned or turned into an exit status.
 #[derive(Debug)]
 pub struct Finished {
     status: u8,
 }
 
 impl Termination for Finished {
-    /// The exit status.
+    /// Returns the exit status.
     fn report<R: Eprint>(self, _rt: &R) -> ExitCode
         ensures { exit_status result ≡ self.status }
     {
@@ -31,10 +31,10 @@ impl Termination for Finished {
     }
 }
 
-/// Does what the words of an invocation ask for, over its streams, and gives the exit status that tells how
-/// it ended. Where memory for the words or for a stream is refused, that is all that is told.
+/// Does what the words of an invocation ask for, over its streams, and returns the exit status. If
+/// memory for the words or for a stream is refused, it only reports that.
 ///
-/// `serve` is called where the words ask for nodes that serve, as `run` calls it.
+/// `serve` is called if the words ask to serve, as [`crate::run`] calls it.
 pub fn start<I: Invocation, S: FnMut(u64, u64, u64) -> u8>(
     alloc: Global,
     invocation: &I,
@@ -99,7 +99,7 @@ impl<R: BufRead, W: Output> Opened<R, W> {
     }
 }
 
-/// Asks for the words, and opens the streams.
+/// Asks for the words, and opens the streams. The only error is out of memory.
 fn open<I: Invocation>(
     alloc: Global,
     invocation: &I,

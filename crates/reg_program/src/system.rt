@@ -4,8 +4,8 @@ use std::alloc::{AllocError, Global};
 use std::env::{self, Env};
 use std::io::{self, BufReader, BufWriter, ErrorKind, Input, Print, Printer, Stderr};
 
-/// What the system started the program with. Of its words, and of what its streams give and take, contracts
-/// know nothing.
+/// The words and the streams with which the system started the program. Contracts know nothing of
+/// the words, nor of what the streams give and take.
 #[derive(Drop)]
 pub struct SystemInvocation<'a, R> {
     rt: &'a R,
@@ -13,7 +13,8 @@ pub struct SystemInvocation<'a, R> {
 }
 
 impl<'a, R> SystemInvocation<'a, R> {
-    /// The words, the standard input and the standard output of `rt`, and standard error.
+    /// Makes one with the words, the standard input and the standard output of `rt`, and with
+    /// standard error.
     pub fn new(rt: &'a R, errors: Stderr) -> SystemInvocation<'a, R> {
         SystemInvocation { rt, errors }
     }
@@ -36,7 +37,7 @@ impl<'a, R: Env + Input + Print + Alloc<A = Global>> Invocation for SystemInvoca
 
     ghost has_errors = { λ _ _. ⊤ };
 
-    /// The words; where one isn't UTF-8 there are none, which is not a command.
+    /// Returns the words. If one isn't UTF-8 it returns none, which isn't a command.
     fn words(&self, alloc: Global) -> Result<Vec<String>, AllocError> {
         match env::args(self.rt) {
             Ok(words) => words.collect(alloc),

@@ -13,14 +13,14 @@ use reg_records::Device;
 use reg_responses::{WriteFault, write_whole};
 use std::io::Write;
 
-/// A part of what is reported.
+/// A part of a report.
 #[derive(Clone, Copy)]
 pub(crate) enum Part {
     Text(&'static str),
     Number(u64),
 }
 
-/// Tells how the program ends, without memory.
+/// Reports how the program ends, without taking memory. Fails if the writer does.
 pub(crate) fn tell<E: Write>(errors: &mut Device<E>, ended: &Ended) -> Result<(), WriteFault>
     ensures { Writes E.contents errors.old errors.new (errors_written ended.now) result }
 {
@@ -51,7 +51,7 @@ fn write_part<E: Write>(errors: &mut Device<E>, part: &Part) -> Result<(), Write
     }
 }
 
-/// What is told of an end, in parts.
+/// Returns the report of an end, in parts.
 fn parts_of(ended: &Ended) -> [Part; 5]
     ensures { parts_text result ≡ errors_written ended.now }
 {
@@ -82,7 +82,7 @@ fn parts_of(ended: &Ended) -> [Part; 5]
     }
 }
 
-/// A line of two texts.
+/// Makes a line of two texts.
 fn line(first: &'static str, second: &'static str) -> [Part; 5]
     ensures { parts_text result ≡ first.now ++ (second.now ++ codes "\n") }
 {
@@ -95,7 +95,7 @@ fn line(first: &'static str, second: &'static str) -> [Part; 5]
     ]
 }
 
-/// A line with a number in it.
+/// Makes a line with a number in it.
 fn numbered(before: &'static str, number: u64, after: &'static str, name: &'static str) -> [Part; 5]
     ensures { parts_text result ≡ before.now ++ (decimal number ++ (after.now ++ (name.now ++ codes "\n"))) }
 {

@@ -12,11 +12,11 @@ use reg_responses::{WriteFault, write_whole};
 use std::alloc::Global;
 use std::io::Write;
 
-/// How many bytes at most wait to be written together.
+/// At most this many bytes wait to be written together.
 const MOST_WAITING: usize = 65_536;
 
-/// Writes a text, a stretch of it at a time, and flushes it. Its short pieces are put together first, and where memory for that
-/// is refused each is written by itself.
+/// Writes a text piece by piece, and flushes it. Short pieces are joined first; if memory for that
+/// is refused, each is written by itself. Fails if the writer does.
 pub(crate) fn write_text<W: Write>(
     alloc: Global,
     writer: &mut Device<W>,
@@ -30,7 +30,7 @@ pub(crate) fn write_text<W: Write>(
     write_whole(writer, waiting.as_bytes())
 }
 
-/// Writes the pieces, one after the other, but for those that wait still.
+/// Writes the pieces, one after the other, except those that still wait.
 fn write_pieces<W: Write>(
     writer: &mut Device<W>,
     waiting: &mut String,
@@ -63,7 +63,7 @@ fn write_piece<W: Write>(
     }
 }
 
-/// Lets a text wait behind what waits, where it has room there, and else writes both.
+/// Lets a text wait after what waits, if there is room; else writes both.
 fn put<W: Write>(writer: &mut Device<W>, waiting: &mut String, text: &str) -> Result<(), WriteFault>
     requires { interruptions_of writer.old ≡ 0 }
     ensures { Puts W.contents writer.old writer.new (string_bytes waiting.old) (string_bytes waiting.new) text.now result }
@@ -76,7 +76,8 @@ fn put<W: Write>(writer: &mut Device<W>, waiting: &mut String, text: &str) -> Re
     write_whole(writer, text.as_bytes())
 }
 
-/// Whether a text found room behind what waits, and waits there now. Where it didn't, nothing has changed.
+/// Returns whether there was room for a text after what waits, so that it waits now. If there
+/// wasn't, nothing has changed.
 fn has_joined(waiting: &mut String, text: &str) -> bool
     ensures { string_bytes waiting.new ≡ (if result then string_bytes waiting.old ++ text.now else string_bytes waiting.old) }
 {

@@ -5,25 +5,30 @@ ghost use Rattle.reg_program.specs.Words.{command_named, command_of, is_plain, n
 use reg_messages::digits_value;
 use reg_records::has_only_digits;
 
-/// The least and the greatest port, number of nodes, and number of workers of a node.
+/// The least and the greatest port.
 const PORTS: (u64, u64) = (1, 65_535);
 
+/// The least and the greatest number of nodes.
 const NODES: (u64, u64) = (1, 3);
 
+/// The least and the greatest number of workers of a node.
 const WORKERS: (u64, u64) = (1, 16);
 
 /// What the arguments ask for.
 #[derive(Clone, Copy, Debug, PartialEq, Eq)]
 pub enum ProgramCommand {
+    /// Read a log, and answer the requests after it.
     Fold,
+    /// Compare two schemas.
     Sketch,
-    /// So many nodes are to serve, each by so many workers: node k, from 0, at that port plus k.
+    /// Serve by `nodes` nodes with `workers` workers each: node k, from 0, listens at `port` plus
+    /// k.
     Serve { port: u64, nodes: u64, workers: u64 },
-    /// The words are no command: how to use the program is to be said.
+    /// The words aren't a command; the usage is to be shown.
     Usage,
 }
 
-/// What the words ask for, of which the first is the program's name.
+/// Returns what the words ask for; the first is the program's name.
 pub fn command_of(words: &[String]) -> ProgramCommand
     ensures { result ≡ command_of (map string_bytes words.now) }
 {
@@ -44,7 +49,7 @@ pub fn command_of(words: &[String]) -> ProgramCommand
     }
 }
 
-/// The command that a word alone asks for.
+/// Returns the command that a single word asks for.
 fn command_named(word: &str) -> ProgramCommand
     ensures { result ≡ command_named word.now }
 {
@@ -57,7 +62,8 @@ fn command_named(word: &str) -> ProgramCommand
     }
 }
 
-/// Serves, where all three are numbers within their limits, and each node has a port.
+/// Returns the command to serve if all three are numbers within their limits and each node has a
+/// port.
 fn serving(port: Option<u64>, nodes: Option<u64>, workers: Option<u64>) -> ProgramCommand
     ensures { result ≡ serving port nodes workers }
 {
@@ -77,7 +83,7 @@ fn serving(port: Option<u64>, nodes: Option<u64>, workers: Option<u64>) -> Progr
     }
 }
 
-/// The number that a word spells, where that is within the limits.
+/// Returns the number that a word spells, if it is within the limits.
 fn number_in(limits: (u64, u64), word: &[u8]) -> Option<u64>
     ensures { result ≡ number_in limits word.now }
 {
@@ -92,7 +98,7 @@ fn number_in(limits: (u64, u64), word: &[u8]) -> Option<u64>
     }
 }
 
-/// Whether a word is one to five decimal digits, of which the first isn't 0.
+/// Returns whether a word is one to five decimal digits and doesn't begin with 0.
 fn is_plain(word: &[u8]) -> bool
     ensures { result ≡ is_plain word.now }
 {

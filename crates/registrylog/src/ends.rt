@@ -1,4 +1,4 @@
-// What is said at the end, and the exit status.
+// What is written at the end, and the exit status.
 use crate::fault::KeepError;
 use clap::Error;
 use clap::error::ErrorKind;
@@ -12,22 +12,22 @@ use std::alloc::Global;
 use std::io::{self, Eprint, Print};
 use std::process::{ExitCode, Termination};
 
-/// How the program ended. Only this file makes one, and none can be dropped, so that `main` has to return what came of its
-/// command.
+/// How the program ended. Only this file makes one, and none can be dropped, so `main` has to
+/// return the result of its command.
 #[derive(Debug)]
 pub(crate) struct Finished {
     status: u8,
 }
 
 impl Termination for Finished {
-    /// The exit status.
+    /// Returns the exit status.
     fn report<R: Eprint>(self, _rt: &R) -> ExitCode {
         let Finished { status } = self;
         ExitCode::from(status)
     }
 }
 
-/// Says why words aren't a command line, or writes the help or the version that they ask for.
+/// Reports why words aren't a command line, or writes the help or the version that they ask for.
 pub(crate) fn refused<R: Print + Eprint>(rt: &R, error: Error) -> io::Result<Finished> {
     error.print(rt)?;
     match error.kind() {
@@ -37,7 +37,7 @@ pub(crate) fn refused<R: Print + Eprint>(rt: &R, error: Error) -> io::Result<Fin
     }
 }
 
-/// Says that the arguments are no text.
+/// Reports that the arguments aren't UTF-8 text.
 pub(crate) fn misread<R: Eprint>(rt: &R, error: io::Error) -> io::Result<Finished> {
     if error.kind() != io::ErrorKind::InvalidData {
         return Err(error);
@@ -46,14 +46,14 @@ pub(crate) fn misread<R: Eprint>(rt: &R, error: io::Error) -> io::Result<Finishe
     Ok(Finished { status: 2 })
 }
 
-/// Says why metrics can't be shown.
+/// Reports why metrics can't be shown.
 pub(crate) fn unshown<R: Eprint>(rt: &R, error: io::Error) -> io::Result<Finished> {
     let kind = error.kind();
     rt.eprintln(format_args!("metrics: {kind:?}"))?;
     Ok(Finished { status: 1 })
 }
 
-/// Says why the log of that file isn't locked.
+/// Reports why the log of that file can't be locked.
 pub(crate) fn unlocked<R: Eprint>(rt: &R, file: &str, fault: KeepError) -> io::Result<Finished> {
     match fault {
         KeepError::Missing | KeepError::Exists => rt.eprintln(format_args!("{file}: {fault}"))?,
@@ -64,8 +64,8 @@ pub(crate) fn unlocked<R: Eprint>(rt: &R, file: &str, fault: KeepError) -> io::R
     })
 }
 
-/// Says why a log isn't served, or a file isn't read or written. What keeps a log from being taken over was told line by
-/// line.
+/// Reports why a log isn't served, or a file isn't read or written. What keeps a log from being
+/// taken over was reported before, line by line.
 pub(crate) fn kept<R: Eprint>(rt: &R, served: Result<(), KeepError>) -> io::Result<Finished> {
     match served {
         Ok(()) => Ok(Finished { status: 0 }),
@@ -80,7 +80,7 @@ pub(crate) fn kept<R: Eprint>(rt: &R, served: Result<(), KeepError>) -> io::Resu
     }
 }
 
-/// Says why lines aren't followed any more.
+/// Reports why lines aren't followed any more.
 pub(crate) fn followed<R: Eprint>(rt: &R, served: Result<(), FollowError>) -> io::Result<Finished> {
     match served {
         Ok(()) => Ok(Finished { status: 0 }),
@@ -93,7 +93,8 @@ pub(crate) fn followed<R: Eprint>(rt: &R, served: Result<(), FollowError>) -> io
     }
 }
 
-/// Says why a log that others write too isn't served any more. What keeps its base from being served is told line by line.
+/// Reports why a shared log isn't served any more. What keeps its base from being served is
+/// reported line by line.
 pub(crate) fn joined<R: Eprint>(
     rt: &R,
     alloc: Global,
@@ -118,13 +119,13 @@ fn tell_obstacles<R: Eprint>(rt: &R, alloc: Global, found: &[Obstacle]) -> io::R
     Ok(())
 }
 
-/// The end of a command that wrote something alone.
+/// Ends a command that only writes something.
 pub(crate) fn told(written: io::Result<()>) -> io::Result<Finished> {
     written?;
     Ok(Finished { status: 0 })
 }
 
-/// Says why the lines of a file aren't written any more.
+/// Reports why the lines of a file aren't written any more.
 pub(crate) fn tailed<R: Eprint>(rt: &R, error: TailError) -> io::Result<Finished> {
     rt.eprintln(error)?;
     Ok(Finished {
@@ -132,7 +133,7 @@ pub(crate) fn tailed<R: Eprint>(rt: &R, error: TailError) -> io::Result<Finished
     })
 }
 
-/// The end of a filter, which found nothing wrong, or something, or failed.
+/// Ends a filter: status 0 if it found nothing wrong, 2 if it did; an error is reported.
 pub(crate) fn filtered<R: Eprint>(rt: &R, ended: Result<bool, BaseError>) -> io::Result<Finished> {
     match ended {
         Ok(true) => Ok(Finished { status: 0 }),

@@ -12,32 +12,34 @@ pub(crate) enum KeepError {
     /// Another process serves it.
     #[error("log is in use")]
     InUse,
-    /// There is no file, or one without a byte, and none is to be made.
+    /// The file is missing or empty, and no new log was asked for.
     #[error("no log is there. Is its disk mounted, its name right? With --new a new one is made")]
     Missing,
-    /// A new log is to be made where one is.
+    /// A new log was asked for, and there is one already.
     #[error("a log is there already. Without --new it is served")]
     Exists,
-    /// The first line that has a fault; lines count from 1.
+    /// The first faulty line; lines count from 1.
     #[error("line {line}: {fault}")]
     Line { line: u64, fault: LogFault },
     /// The file or one beside it failed.
     #[error("log file: {0}")]
     File(SystemError),
-    /// The path of the log named another file, or none, while it was opened.
+    /// While the log was opened, its path named another file, or none.
     #[error("log file: renamed, removed or replaced")]
     Unnamed,
-    /// A file is there already that is to be written before it takes another name.
+    /// The file in which the output would be written first exists already.
     #[error("there is a file with .new behind the name of the output already")]
     Unfinished,
+    /// Memory was refused.
     #[error("OutOfMemory")]
     OutOfMemory,
+    /// The service couldn't start.
     #[error("{0}")]
     Start(ServiceError),
 }
 
 impl KeepError {
-    /// The refusal of a disk that is full, if it is one.
+    /// Returns the refusal of a full disk, if this is one.
     pub(crate) fn of_full_disk(self) -> Option<SystemError> {
         match self {
             KeepError::File(error) if error.is_of_full_disk() => Some(error),
@@ -45,7 +47,8 @@ impl KeepError {
         }
     }
 
-    /// The exit status of a program that ends with it.
+    /// Returns the exit status of a program that ends with this error: 2 if the log is at fault, 1
+    /// if the system is.
     pub(crate) fn status(self) -> u8 {
         match self {
             KeepError::InUse | KeepError::Missing | KeepError::Exists => 2,
@@ -82,7 +85,7 @@ impl<T: Drop> From<AllocFailed<T>> for KeepError {
 }
 
 impl KeepError {
-    /// Why a log wasn't opened, where that was the trouble with its file last.
+    /// Makes the error of a log that wasn't opened; `trouble` is the last trouble with its file.
     pub(crate) fn of_opening(error: JournalOpenError, trouble: Option<Trouble>) -> KeepError {
         match error {
             JournalOpenError::Log(LogError::Fault { line, fault }) => KeepError::Line {

@@ -1,5 +1,5 @@
-// `registrylog check`, `registrylog compact` and `registrylog base`: what a log holds, what compacting leaves of it, and what a log
-// begins with that goes on at an offset.
+// `registrylog check`, `registrylog compact` and `registrylog base`: what a log holds, what
+// compacting leaves of it, and the base that a log from an offset on begins with.
 ghost use Rattle.std.specs.Prelude.{◌≤◌, IfSome};
 ghost use Rattle.reg_records.specs.declared.limits.TheConstants.{OFFSET_LIMIT};
 
@@ -16,7 +16,7 @@ use std::io::{self, BufWriter, Eprint, Input, Print, Read, Write};
 use std::thread::Threads;
 use std::time::Clock;
 
-/// `registrylog check`.
+/// Runs `registrylog check`.
 pub(crate) fn check<
     R: Input
         + Print
@@ -36,7 +36,7 @@ pub(crate) fn check<
     ended
 }
 
-/// Writes what the log of a file holds, or that of the input.
+/// Writes what the log of a file, or that of the input, holds.
 fn check_log<R: Input + Print + Eprint + Files<File = File>>(
     rt: &R,
     alloc: Global,
@@ -66,7 +66,7 @@ fn check_from<R: Print + Eprint, S: Read>(
     filtered(rt, inspected.map_err(BaseError::from))
 }
 
-/// `registrylog base`.
+/// Runs `registrylog base`.
 pub(crate) fn base<
     R: Input
         + Print
@@ -86,7 +86,7 @@ pub(crate) fn base<
     ended
 }
 
-/// Writes what a log begins with that goes on at an offset.
+/// Writes the base that a log from the offset `below` on begins with.
 fn base_log<R: Input + Print + Eprint + Files<File = File>>(
     rt: &R,
     alloc: Global,
@@ -120,7 +120,7 @@ fn base_from<R: Print + Eprint, S: Read>(
     )
 }
 
-/// The file of a log, open for reading.
+/// Opens the file of a log for reading.
 fn open_log_file<R: Files<File = File>>(
     rt: &R,
     path: &str,
@@ -134,15 +134,15 @@ fn open_log_file<R: Files<File = File>>(
 /// What compacting is asked for.
 #[derive(Clone, Copy)]
 pub(crate) struct Wish<'a> {
-    /// The log's file, or none for the input.
+    /// The log's file; `None` for the input.
     pub(crate) file: Option<&'a str>,
-    /// The floor to compact to.
+    /// The floor to compact to; `None` for the log's own.
     pub(crate) floor: Option<u64>,
-    /// Where to put what is left, or none for the output.
+    /// Where to write the result; `None` for the output.
     pub(crate) output: Option<&'a str>,
 }
 
-/// `registrylog compact`.
+/// Runs `registrylog compact`.
 pub(crate) fn compact<
     R: Input
         + Print
@@ -208,7 +208,7 @@ fn compact_from<R: Print + Eprint + Files<File = File>, S: Read>(
     }
 }
 
-/// Puts a new file in its place, or removes it where it wasn't written.
+/// Puts a new file in its place, or removes it if it wasn't written.
 fn put<R: Eprint + Files<File = File>>(
     rt: &R,
     new: &NewFile,

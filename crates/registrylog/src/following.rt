@@ -12,10 +12,10 @@ use std::sync::{Arc, Wait};
 use std::thread::Threads;
 use std::time::Clock;
 
-/// How many bytes of the input are taken at a time at most.
+/// How many bytes of the input are read at a time at most.
 pub(crate) const PIECE: usize = 65_536;
 
-/// The way to the nodes.
+/// The ports of the nodes.
 #[derive(Drop)]
 struct FollowPorts<R: Drop> {
     rt: R,

@@ -3,13 +3,14 @@ use crate::watching::{SharedBoard, date};
 use std::io::{self, Read};
 use std::time::Clock;
 
-/// The lines of a log that is followed. They end with the input, or with an empty line.
+/// A reader of the lines of a followed log, which counts them. They end with the input or with an
+/// empty line.
 #[derive(Drop)]
 pub(crate) struct CountedLines<I: Drop, R: Drop> {
     rt: R,
     input: I,
     board: SharedBoard,
-    /// Whether nothing of the next line came.
+    /// Whether nothing of the next line has come.
     is_at_start: bool,
 }
 

@@ -1,4 +1,5 @@
-// `registrylog join`: nodes over a log that other processes write too, as an adapter at the standard input and output tells it.
+// `registrylog join`: nodes over a shared log, which an adapter tells on the standard input and
+// output.
 use crate::place::Place;
 use crate::watching::{SharedBoard, date};
 use reg_join_service::{AskedFor, Heard, Overhear, RULES, Watch};
@@ -10,7 +11,7 @@ use std::io::{self, Eprint, Print};
 use std::net::{Net, TcpListener, TcpStream};
 use std::time::Clock;
 
-/// The way to the nodes.
+/// The ports of the nodes.
 #[derive(Drop)]
 pub(crate) struct JoinPorts<'a, R: Drop> {
     rt: R,
@@ -51,7 +52,7 @@ impl<R: Net<Listener = TcpListener, Stream = TcpStream> + Eprint + Clock + Drop>
     }
 }
 
-/// Says that what was told next is no command's, and that nothing is told.
+/// Reports on the error output that no command writes a told batch, and that the adapter is silent.
 #[derive(Drop)]
 pub(crate) struct JoinWatch<'a, R: Drop> {
     rt: R,
@@ -75,7 +76,7 @@ impl<R: Eprint + Drop> Watch for JoinWatch<'_, R> {
     }
 }
 
-/// Counts what a process and its adapter say to each other.
+/// Counts the messages between a process and its adapter.
 #[derive(Drop)]
 pub(crate) struct JoinCounts<R: Drop> {
     rt: R,
@@ -107,7 +108,7 @@ impl<R: Clock + Drop> Overhear for JoinCounts<R> {
     }
 }
 
-/// The answer that a message is, if it is one.
+/// Returns the answer that a message is, if it is one.
 fn reply_in(message: Heard) -> Option<AdapterReply> {
     match message {
         Heard::Batch | Heard::Ready => None,

@@ -21,17 +21,17 @@ use std::sync::Arc;
 use std::thread::Threads;
 use std::time::Clock;
 
-/// The way to the nodes.
+/// The ports of the nodes.
 #[derive(Drop)]
 pub(crate) struct KeepPorts<R: Drop> {
     rt: R,
     alloc: Global,
     place: Place,
-    /// What was read of the log: its records, and its bytes.
+    /// What was read of the log: its records and its bytes.
     records: u64,
     bytes: u64,
     progress: Option<Progress>,
-    /// Whether the log was made.
+    /// Whether the log was made by this start.
     is_new: bool,
     board: SharedBoard,
 }
@@ -57,14 +57,14 @@ impl<R: Drop> KeepPorts<R> {
         }
     }
 
-    /// Notes how many bytes are to be read.
+    /// Notes how many bytes will be read.
     fn has_size(&self, bytes: u64) {
         if let Some(progress) = &self.progress {
             progress.has_size(bytes);
         }
     }
 
-    /// Notes what was read, in so many lines and bytes.
+    /// Notes that the log was read, from so many lines and bytes.
     fn has_read(&mut self, log: &Log, lines: u64, bytes: u64) {
         if let Some(progress) = &self.progress {
             progress.has_read(lines, bytes);
@@ -99,10 +99,10 @@ impl<R: Net<Listener = TcpListener, Stream = TcpStream> + Threads + Eprint + Clo
     }
 }
 
-/// The log of a file with its keep, which says what goes wrong.
+/// The log of a file with its keep, which reports what goes wrong.
 pub(crate) type ToldLog<R> = KeptLog<Told<LogKeep<MeteredFile<R>>, Telling<R>>>;
 
-/// The disk of a log's file.
+/// Makes the disk of a log's file.
 fn disk_of<R: Files<File = File> + Clock + Copy + Drop>(
     rt: R,
     alloc: Global,
@@ -114,7 +114,7 @@ fn disk_of<R: Files<File = File> + Clock + Copy + Drop>(
     Ok(MeteredFile::new(rt, disk, Arc::try_clone(board)?))
 }
 
-/// Opens the file of a log, and compacts it where that is due.
+/// Opens the file of a log for commands, and compacts it if that is due.
 pub(crate) fn open_log<R: Files<File = File> + Clock + Eprint + Copy + Drop>(
     rt: R,
     alloc: Global,
@@ -144,10 +144,10 @@ pub(crate) fn open_log<R: Files<File = File> + Clock + Eprint + Copy + Drop>(
     Ok(kept.telling(telling))
 }
 
-/// Why lookups alone are served.
+/// Why only lookups are served.
 #[derive(Clone, Copy, Debug, PartialEq, Eq)]
 enum Shortage {
-    /// The log has no line for the mark of ids that it owes.
+    /// The log has no line left for the id mark that it owes.
     Lines,
     /// The disk had no room for what the start has to write.
     Disk(SystemError),
@@ -169,7 +169,8 @@ impl fmt::Display for Shortage {
     }
 }
 
-/// The log of a file for lookups alone, where a start ended for want of room; else that end.
+/// Opens the log of a file for lookups only if a start ended for lack of room; else gives back how
+/// it ended.
 pub(crate) fn open_short<R: Files<File = File> + Clock + Eprint + Copy + Drop>(
     rt: R,
     alloc: Global,
@@ -187,7 +188,7 @@ pub(crate) fn open_short<R: Files<File = File> + Clock + Eprint + Copy + Drop>(
     }
 }
 
-/// Why a start ended, where lookups can be served all the same.
+/// Returns why a start ended, if lookups can be served all the same.
 fn shortage_of(ended: Result<(), KeepError>, board: &SharedBoard) -> Option<Shortage> {
     match ended {
         Err(KeepError::Start(ServiceError::Full)) => Some(Shortage::Lines),
@@ -197,7 +198,7 @@ fn shortage_of(ended: Result<(), KeepError>, board: &SharedBoard) -> Option<Shor
     }
 }
 
-/// Reads the log of a file for lookups alone, and says why.
+/// Reads the log of a file for lookups only, and reports why.
 fn open_closed<R: Files<File = File> + Clock + Eprint + Copy + Drop>(
     rt: R,
     alloc: Global,
@@ -226,7 +227,7 @@ fn open_closed<R: Files<File = File> + Clock + Eprint + Copy + Drop>(
     Ok(kept.telling(Telling::new(rt, Arc::try_clone(board)?)))
 }
 
-/// The end of nodes over the log of a file. Where the log can't be taken over it is told why.
+/// Ends nodes over the log of a file. If the log can't be taken over, reports why.
 pub(crate) fn ended<R: Files<File = File> + Eprint + Copy + Drop>(
     rt: R,
     alloc: Global,
@@ -239,7 +240,7 @@ pub(crate) fn ended<R: Files<File = File> + Eprint + Copy + Drop>(
     Ok(served?)
 }
 
-/// Says what keeps the log of a file from being taken over, a line each.
+/// Reports what keeps the log of a file from being taken over, one line each.
 fn tell_obstacles<R: Files<File = File> + Eprint + Copy + Drop>(
     rt: R,
     alloc: Global,

@@ -1,9 +1,15 @@
-//! The program `registrylog`: a registry whose log is kept in a file, and what is done with such a log.
+//! The program `registrylog`: a registry whose log is kept in a file or shared, and tools for such
+//! logs.
 //!
-//! `registrylog keep` serves the log of a file, `registrylog tail` writes its lines as they are acknowledged, and
-//! `registrylog follow` serves lines as they come. `registrylog join` serves a log that other processes write too, as an adapter tells it.
-//! `registrylog check` writes what a log holds, `registrylog compact` the lines of its last records, and `registrylog base` what a log
-//! begins with that goes on at an offset. `registrylog help COMMAND` has the options of each.
+//! `registrylog keep` serves the log of a file, `registrylog tail` writes its lines as they are
+//! acknowledged, and `registrylog follow` serves lines as they come. `registrylog join` serves a
+//! log that other processes write too, as an adapter tells it. `registrylog rules` writes the
+//! number of rules that such processes have to share. `registrylog check` writes what a log holds,
+//! `registrylog compact` the lines of its last records, and `registrylog base` the base that a log
+//! from an offset on begins with. `registrylog help COMMAND` lists the options of each.
+//!
+//! This crate ties these to the system: files and locks, ports, metrics and messages. What is
+//! proved is in the crates below, first of all `reg_pen`, `reg_file_keep` and `reg_join`.
 #![tactic(auto)]
 
 mod ends;
@@ -52,7 +58,8 @@ fn main(rt: HostRuntime) -> io::Result<Finished> {
         Err(error) => return refused(&rt, error),
     };
     let board = make_board(&rt, alloc)?;
-    // Here, since the prover covers no thread of a type whose impl rests on bounds of a caller's.
+    // Bound here, since the prover covers no thread of a type whose impl rests on bounds of a
+    // caller's.
     if let Some((served, address)) = shown_by(&command) {
         let shown = Shown::new(rt, &board, served)?;
         let begun = match TcpListener::bind(&rt, address) {

@@ -1,4 +1,4 @@
-// A log's file of which it is counted how long its changes take.
+// The file of a log, with counts of how long its changes take.
 ghost use Rattle.std.specs.Prelude.{[], ⊤};
 
 use crate::watching::SharedBoard;
@@ -8,18 +8,19 @@ use std::alloc::Global;
 use std::fs::{File, Files};
 use std::time::Clock;
 
-/// A log's file. Nothing is known of it as a disk, as of the file itself.
+/// The file of a log. As of the file itself, contracts know nothing of it as a disk.
 #[derive(Drop)]
 pub(crate) struct MeteredFile<R: Files<File = File> + Drop> {
     rt: R,
     file: StoredFile<R>,
     board: SharedBoard,
-    /// When its length was asked for last, which is how an append begins, and how long after that it was synced last. In microseconds.
+    /// When its length was last asked for, which is how an append begins, and how long after that
+    /// it was last synced, both in microseconds.
     begun: u64,
     took: u64,
-    /// How many bytes it had when that was asked for last.
+    /// Its length in bytes when that was last asked for.
     len: usize,
-    /// Why the last compaction left the file as it was, if it did.
+    /// Why the last failed compaction left the file as it was; `None` if none did.
     unrenewed: Option<Trouble>,
 }
 
@@ -40,22 +41,22 @@ impl<R: Files<File = File> + Clock + Drop> MeteredFile<R> {
         self.file.path()
     }
 
-    /// How many bytes it had when that was asked for last, which is how an append begins.
+    /// Returns its length in bytes when that was last asked for, which is how an append begins.
     pub(crate) fn len(&self) -> usize {
         self.len
     }
 
-    /// What went wrong with the file last, but for a compaction that left it as it was.
+    /// Returns what last went wrong with the file, except in a compaction that left it as it was.
     pub(crate) fn trouble(&self) -> Option<Trouble> {
         self.file.trouble()
     }
 
-    /// Why the last compaction left the file as it was, if it did.
+    /// Returns why the last failed compaction left the file as it was; `None` if none did.
     pub(crate) fn unrenewed(&self) -> Option<Trouble> {
         self.unrenewed
     }
 
-    /// How long the last append took, in microseconds.
+    /// Returns how long the last append took, in microseconds.
     pub(crate) fn took(&self) -> u64 {
         self.took
     }

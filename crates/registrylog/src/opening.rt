@@ -1,4 +1,4 @@
-// Opening a log's file, under its lock.
+// Opens the file of a log under its lock.
 use crate::fault::KeepError;
 use crate::metered::MeteredFile;
 use reg_compaction::{Aside, Opens};
@@ -11,19 +11,19 @@ use std::os::unix::fs::{MetadataExt, OpenOptionsExt, PermissionsExt, fchown};
 use std::path::Path;
 use std::time::Clock;
 
-/// The rights to a lock: who can read it could take it.
+/// The permissions of a lock: whoever can read it could take it.
 const LOCK_RIGHTS: u32 = 0o600;
 
-/// A log's file. While this is there no other process has it.
+/// The lock of a log's file. While it exists no other process has the log.
 #[derive(Drop)]
 pub(crate) struct Locked {
-    /// Where it is, with no link left in it.
+    /// The path of the file, with all links resolved.
     pub(crate) path: String,
     pub(crate) lock: File,
 }
 
-/// Takes the lock of a log's file, which is a file beside it that is never removed. The log has to be there, or, where it is to
-/// be new, not yet.
+/// Takes the lock of a log's file: a file beside it that is never removed. Refused if another
+/// process has it, if the log is missing, or if a new log is asked for and there is one.
 pub(crate) fn lock<R: Files<File = File>>(
     rt: &R,
     alloc: Global,
@@ -41,12 +41,13 @@ pub(crate) fn lock<R: Files<File = File>>(
     let like = rt.metadata(path.as_str())?;
     let lock = open_lock(rt, beside(alloc, path.as_str(), ".lock")?.as_str(), &like)?;
     taken(lock_file(&lock))?;
-    // Looked again, since another process may have had the lock until now.
+    // Checked again, since another process may have had the lock until now.
     check_new(rt, path.as_str(), is_new)?;
     Ok(Locked { path, lock })
 }
 
-/// Refuses a log that isn't there, or one that is where it is to be new. A file without a byte is none.
+/// Refuses a missing log, or an existing one if a new one is asked for. An empty file counts as
+/// missing.
 fn check_new<R: Files>(rt: &R, path: &str, is_new: bool) -> Result<(), KeepError> {
     match (has_bytes(rt.metadata(path))?, is_new) {
         (true, true) => Err(KeepError::Exists),
@@ -55,7 +56,7 @@ fn check_new<R: Files>(rt: &R, path: &str, is_new: bool) -> Result<(), KeepError
     }
 }
 
-/// Whether there is a file, and something in it.
+/// Returns whether the file exists and isn't empty.
 fn has_bytes(found: io::Result<Metadata>) -> io::Result<bool> {
     match found {
         Ok(found) => Ok(found.len() > 0),
@@ -64,7 +65,7 @@ fn has_bytes(found: io::Result<Metadata>) -> io::Result<bool> {
     }
 }
 
-/// A lock that another process has is that of a log which is in use.
+/// Turns the refusal of a lock that another process has into `InUse`.
 pub(crate) fn taken(locked: io::Result<()>) -> Result<(), KeepError> {
     match locked {
         Ok(()) => Ok(()),
@@ -73,8 +74,8 @@ pub(crate) fn taken(locked: io::Result<()>) -> Result<(), KeepError> {
     }
 }
 
-/// Opens the file of a lock, made where it isn't there. It gets the owner of the log and the rights that it is to have, also an older one,
-/// as far as this process may give them.
+/// Opens the file of a lock, and makes it if it is missing. It gets the log's owner and the
+/// permissions `LOCK_RIGHTS`, even if it is older, as far as this process may set them.
 fn open_lock<R: Files<File = File>>(rt: &R, path: &str, log: &Metadata) -> io::Result<File> {
     let mut how = File::options();
     how.read(true).write(true).create(true).mode(LOCK_RIGHTS);
@@ -89,22 +90,22 @@ fn open_lock<R: Files<File = File>>(rt: &R, path: &str, log: &Metadata) -> io::R
     Ok(lock)
 }
 
-/// Opens a log's file for reading and writing, and takes its own lock: the one beside it may be removed, and isn't there for another name
-/// of the file.
+/// Opens a log's file for reading and writing, and locks it too: the lock beside it may have been
+/// removed, and another name of the file has none.
 pub(crate) fn open_file<R: Files<File = File>>(rt: &R, path: &str) -> Result<File, KeepError> {
     let file = File::options().read(true).write(true).open(rt, path)?;
     taken(lock_file(&file))?;
     Ok(file)
 }
 
-/// The path with more behind its name.
+/// Returns the path with `more` after its name.
 fn beside(alloc: Global, path: &str, more: &str) -> Result<String, KeepError> {
     let mut other = String::from_str(alloc, path)?;
     other.push_str(more)?;
     Ok(other)
 }
 
-/// Puts the names in a file's folder on the disk.
+/// Syncs the folder of a file, so that the names in it are on the disk.
 pub(crate) fn sync_folder<R: Files<File = File>>(rt: &R, path: &str) -> io::Result<()> {
     let folder = match Path::new(path).parent() {
         Some(folder) if !folder.as_str().is_empty() => folder.as_str(),
@@ -113,15 +114,16 @@ pub(crate) fn sync_folder<R: Files<File = File>>(rt: &R, path: &str) -> io::Resu
     File::open(rt, folder)?.sync_all()
 }
 
-/// Makes the file for what stands behind a log, under a name that no other has, and gives it its own once it is whole.
+/// Makes the file for what follows a log: first under a name that no other has, and under its own
+/// once it is complete.
 #[derive(Drop)]
 struct CutFile<R: Drop> {
     rt: R,
     alloc: Global,
-    /// The log's file, whose owner and rights it gets.
+    /// The log's file, whose owner and permissions it gets.
     like: Metadata,
     path: String,
-    /// Where it is written.
+    /// Where it is written first.
     unfinished: String,
     /// Why it wasn't made.
     fault: Option<KeepError>,
@@ -158,8 +160,8 @@ impl<R: Files<File = File> + Copy + Drop> Opens<StoredFile<R>> for CutFile<R> {
     }
 }
 
-/// Starts over a log's file. What stands behind its empty line is copied to a file of its own, with `.cut` behind the
-/// name, before it is cut off.
+/// Starts over a log's file. What follows its empty line is copied to a file whose name ends with
+/// `.cut`, before it is cut off.
 pub(crate) fn start_log<R: Files<File = File> + Clock + Eprint + Copy + Drop>(
     rt: R,
     alloc: Global,

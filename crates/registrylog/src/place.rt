@@ -6,10 +6,10 @@ use std::net::{Net, SocketAddr, TcpListener, TcpStream};
 /// Where nodes listen, and how many there are.
 #[derive(Clone, Copy)]
 pub(crate) struct Place {
-    /// Where the first node listens; each other one at the port after that of the one before it.
+    /// Where the first node listens; each other node listens at the next port.
     listen: SocketAddr,
     nodes: usize,
-    /// How many workers each node has.
+    /// The workers of each node.
     workers: u32,
 }
 
@@ -22,7 +22,7 @@ impl Place {
         }
     }
 
-    /// How many nodes there are, and workers of each, which go on for as long as the process.
+    /// Returns the number of nodes and of workers, without a limit of connections.
     pub(crate) fn size(self) -> Size {
         Size {
             nodes: self.nodes,

@@ -1,4 +1,4 @@
-// How far the work on a log is, told on the error output each two seconds while it lasts.
+// Progress of the work on a log, reported on the error output every two seconds.
 use std::alloc::{AllocError, Global};
 use std::fmt;
 use std::io::{self, Eprint, Read};
@@ -8,18 +8,18 @@ use std::sync::atomic::{AtomicU64, Ordering};
 use std::thread::{self, JoinHandle, Threads};
 use std::time::{Clock, Duration};
 
-/// How long the work goes on before it is told of, and between two lines.
+/// How many seconds pass before the first report and between two.
 const STEP: u64 = 2;
 
-/// How often in a second it is looked whether the work has ended.
+/// How many times in a second it is checked whether the work has ended.
 const LOOKS: u64 = 50;
 
-/// What was read of a log by now.
+/// What was read of a log so far.
 #[derive(Drop)]
 struct Counts {
     lines: AtomicU64,
     bytes: AtomicU64,
-    /// How many bytes there are, or 0 where that isn't known.
+    /// How many bytes there are; 0 if that isn't known.
     size: AtomicU64,
     /// Not 0 once the work has ended.
     ended: AtomicU64,
@@ -32,7 +32,7 @@ pub(crate) struct Progress {
     name: String,
     is_quiet: bool,
     begun: Duration,
-    /// The thread that tells how far the work is.
+    /// The thread that reports.
     teller: Option<JoinHandle<()>>,
 }
 
@@ -44,8 +44,8 @@ pub(crate) struct Counted<S: Drop> {
 }
 
 impl Progress {
-    /// Begins with the log of a file, or that of the input, of a size if that is known. Unless it is quiet, a thread tells how
-    /// far the work is.
+    /// Begins the work on the log of a file, or on that of the input. Unless it is quiet, a thread
+    /// reports the progress.
     pub(crate) fn begin<R: Threads + Clock + Eprint + Copy + Send + Sync + Drop + 'static>(
         rt: R,
         alloc: Global,
@@ -78,7 +78,7 @@ impl Progress {
         })
     }
 
-    /// The reader, which counts from now on.
+    /// Wraps the reader, which counts from now on.
     pub(crate) fn counted<S: Read + Drop>(&self, reader: S) -> Result<Counted<S>, AllocError> {
         Ok(Counted {
             reader,
@@ -91,13 +91,13 @@ impl Progress {
         self.counts.size.store(bytes, Ordering::SeqCst);
     }
 
-    /// Notes so many lines and bytes as read.
+    /// Notes that so many lines and bytes were read.
     pub(crate) fn has_read(&self, lines: u64, bytes: u64) {
         self.counts.lines.store(lines, Ordering::SeqCst);
         self.counts.bytes.store(bytes, Ordering::SeqCst);
     }
 
-    /// Ends the work. Where it took long enough to be told of, a last line says how long.
+    /// Ends the work. If it took at least two seconds, a last line says how long.
     pub(crate) fn end<R: Threads + Clock + Eprint>(self, rt: &R) {
         let Progress {
             counts,
@@ -138,7 +138,7 @@ fn line_feeds(bytes: &[u8]) -> u64 {
     bytes.iter().filter(|byte| **byte == b'\n').count() as u64
 }
 
-/// The name of a file without its folder, or that of the input.
+/// Returns the name of a file without its folder, or that of the input.
 fn name_of(file: Option<&str>) -> &str {
     let Some(path) = file else {
         return "standard input";
@@ -149,7 +149,7 @@ fn name_of(file: Option<&str>) -> &str {
     }
 }
 
-/// The time on a clock that only goes forward.
+/// Returns the time of a clock that only goes forward.
 fn now<R: Clock>(rt: &R) -> Duration {
     match rt.monotonic() {
         Ok(time) => time,
@@ -161,7 +161,7 @@ fn megabytes(bytes: &AtomicU64) -> u64 {
     bytes.load(Ordering::SeqCst) / 1_000_000
 }
 
-/// Tells how far the work is, until it has ended.
+/// Reports the progress until the work has ended.
 fn tell_each_step<R: Clock + Eprint + Drop>(rt: R, name: String, counts: Arc<Counts>) {
     let pause = Duration::from_millis(1000 / LOOKS);
     for step in 1..u64::MAX {

@@ -1,4 +1,4 @@
-// A new file in the place of another, or where none is.
+// A new file in place of an old one, or where there was none.
 use crate::fault::KeepError;
 use crate::opening::taken;
 use reg_journal::{lock_file, make_alike};
@@ -7,21 +7,22 @@ use std::fs::{File, Files};
 use std::io::{self, ErrorKind};
 use std::path::Path;
 
-/// A file that is being written beside a path, with `.new` behind its name, and is to be put at that path.
+/// A file that is being written beside a path, with `.new` after its name, to be moved to that
+/// path.
 #[derive(Drop)]
 pub(crate) struct NewFile {
     pub(crate) file: File,
     path: String,
     beside: String,
-    /// The file at the path, where one is, and the lock of the log there, where it has one, both locked: while these are there no process
-    /// serves that log.
+    /// The old file at the path, if there is one, and the lock of the log there, if it has one,
+    /// both locked: meanwhile no process serves that log.
     old: Option<File>,
     lock: Option<File>,
 }
 
 impl NewFile {
-    /// Begins the file, with the owner and the permissions of the one at the path, where one is. A log that another
-    /// process serves is left to it.
+    /// Creates the file, with the owner and the permissions of the one at the path, if there is
+    /// one. Refused if another process serves the log there, or if the `.new` file exists.
     pub(crate) fn begin<R: Files<File = File>>(
         rt: &R,
         alloc: Global,
@@ -53,7 +54,7 @@ impl NewFile {
         })
     }
 
-    /// Puts the file at its path, once all that was written is on the disk.
+    /// Moves the file to its path, once all that was written is on the disk.
     pub(crate) fn put<R: Files<File = File>>(&self, rt: &R) -> Result<(), KeepError> {
         self.file.sync_all()?;
         rt.rename(self.beside.as_str(), self.path.as_str())?;
@@ -70,7 +71,7 @@ impl NewFile {
     }
 }
 
-/// What was opened, or none where there is no such file.
+/// Returns the opened file; `None` if there is no such file.
 fn found(opened: io::Result<File>) -> io::Result<Option<File>> {
     match opened {
         Ok(file) => Ok(Some(file)),
@@ -79,7 +80,7 @@ fn found(opened: io::Result<File>) -> io::Result<Option<File>> {
     }
 }
 
-/// A new file, with the owner and the permissions of an old one, if there is one.
+/// Creates a new file, with the owner and the permissions of an old one, if there is one.
 fn made<R: Files<File = File>>(rt: &R, path: &str, old: &Option<File>) -> io::Result<File> {
     match old {
         Some(old) => make_alike(rt, path, &old.metadata()?),
@@ -87,7 +88,7 @@ fn made<R: Files<File = File>>(rt: &R, path: &str, old: &Option<File>) -> io::Re
     }
 }
 
-/// The lock of the log at a path, where it has one, which no other process has then.
+/// Takes the lock of the log at a path; `None` if it has none. Refused if another process has it.
 fn lock_of<R: Files<File = File>>(
     rt: &R,
     alloc: Global,

@@ -1,4 +1,4 @@
-// What says what goes wrong with a keep, and counts what becomes of batches.
+// Reports what goes wrong with a keep, and counts what becomes of batches.
 use crate::metered::MeteredFile;
 use crate::watching::SharedBoard;
 use reg_compaction::JournalCompactError;
@@ -11,7 +11,8 @@ use std::fs::{File, Files};
 use std::io::{Eprint, ErrorKind};
 use std::time::Clock;
 
-/// Says on the error output where a batch is lost, and that a compaction failed, each once; the board shows these too.
+/// Reports on the error output that a batch is lost, and that a compaction failed, each once. The
+/// board shows both too.
 #[derive(Drop)]
 pub(crate) struct Telling<R: Eprint + Drop> {
     rt: R,
@@ -32,7 +33,7 @@ impl<R: Eprint + Drop> Telling<R> {
 }
 
 impl<R: Files<File = File> + Clock + Eprint + Drop> Telling<R> {
-    /// Says that a compaction failed, where one did.
+    /// Reports that a compaction failed, if one did.
     pub(crate) fn tell_fault(&mut self, keep: &FileKeep<MeteredFile<R>>) {
         let fault = keep.compaction_fault();
         self.board.file.is_uncompacted.set(fault.is_some());
@@ -49,7 +50,7 @@ impl<R: Files<File = File> + Clock + Eprint + Drop> Telling<R> {
         }
     }
 
-    /// Says that a batch is lost, unless one was before.
+    /// Reports that a batch is lost, unless one was before.
     fn tell_loss(&mut self, keep: &FileKeep<MeteredFile<R>>, batch: &[Record]) {
         if self.has_told_loss {
             return;
@@ -72,8 +73,8 @@ impl<R: Files<File = File> + Clock + Eprint + Drop> Telling<R> {
             .eprintln(format_args!("log lost at offset {offset}: {loss}"));
     }
 
-    /// Whether the disk was full for the mark of ids, before nodes listen: then lookups alone are served, and nothing that was acknowledged
-    /// is lost.
+    /// Returns whether the disk was full for the id mark before nodes listen: then only lookups are
+    /// served, and nothing that was acknowledged is lost.
     fn is_short_at_start(&self, trouble: Option<Trouble>) -> bool {
         match trouble {
             Some(Trouble::Refused(error)) if error.is_of_full_disk() => {

@@ -1,4 +1,4 @@
-// What an operator looks at: whether commands are answered, and numbers.
+// What an operator watches: whether commands are answered, and the metrics.
 use exposition::page_text;
 use log_arguments::{LogCommand, VERSION};
 use reg_journal::SystemError;
@@ -22,12 +22,12 @@ pub(crate) enum Served {
     Kept,
     /// The lines of the input.
     Followed,
-    /// A log that others write too.
+    /// A shared log.
     Joined,
 }
 
 impl Served {
-    /// The command that serves it.
+    /// Returns the command that serves it.
     fn command(self) -> &'static str {
         match self {
             Served::Kept => "keep",
@@ -37,25 +37,25 @@ impl Served {
     }
 }
 
-/// How far a process that serves is, and its numbers.
+/// The state of a serving process, and its numbers.
 #[derive(Drop)]
 pub(crate) struct Board {
     pub(crate) marks: Marks,
     pub(crate) traffic: Traffic,
     pub(crate) batches: BatchMeters,
-    /// Those of `keep` alone.
+    /// Only for `keep`.
     pub(crate) file: FileMeters,
-    /// Whether the disk of a kept log, or the share of it that its owner may have, ran out.
+    /// Whether the disk of a kept log, or its owner's quota of it, is used up.
     pub(crate) is_disk_full: Mark,
     pub(crate) is_quota_used_up: Mark,
-    /// Those of `follow` alone.
+    /// Only for `follow`.
     pub(crate) lines: LineMeters,
-    /// Those of `join` alone.
+    /// Only for `join`.
     pub(crate) adapter: AdapterMeters,
 }
 
 impl Board {
-    /// Notes that the disk, or a share of it, is full.
+    /// Notes that the disk or the owner's quota is used up.
     pub(crate) fn ran_out(&self, error: SystemError) {
         match error.kind {
             ErrorKind::QuotaExceeded => self.is_quota_used_up.set(true),
@@ -63,7 +63,7 @@ impl Board {
         }
     }
 
-    /// That the disk, or a share of it, is full, if it was noted.
+    /// Returns that the disk or the owner's quota is used up, if that was noted.
     pub(crate) fn full_disk(&self) -> Option<SystemError> {
         let kind = if self.is_disk_full.is_set() {
             ErrorKind::StorageFull
@@ -76,10 +76,10 @@ impl Board {
     }
 }
 
-/// That of a process, for its threads.
+/// The board of a process, shared by its threads.
 pub(crate) type SharedBoard = Arc<Board, Global>;
 
-/// A process begins.
+/// Makes the board of a process that begins now.
 pub(crate) fn make_board<R: Clock>(rt: &R, alloc: Global) -> Result<SharedBoard, AllocError> {
     let board = Board {
         marks: Marks::new(),
@@ -97,7 +97,7 @@ pub(crate) fn make_board<R: Clock>(rt: &R, alloc: Global) -> Result<SharedBoard,
     Ok(Arc::new(alloc, board)?)
 }
 
-/// The microseconds since 1970; 0 where there is no clock.
+/// Returns the microseconds since 1970; 0 if there is no clock.
 pub(crate) fn date<R: Clock>(rt: &R) -> u64 {
     match rt.since_1970() {
         Ok(date) => date
@@ -153,7 +153,7 @@ impl<R: Files + Alloc + Clock + Clone + Drop> Pages for Shown<R> {
     }
 }
 
-/// What a command serves, and the address where that is shown, if it has one.
+/// Returns what a command serves, and the address where its metrics are shown, if it has one.
 pub(crate) fn shown_by(command: &LogCommand<'_>) -> Option<(Served, SocketAddr)> {
     match command {
         LogCommand::Keep { metrics, .. } => metrics.map(|address| (Served::Kept, address)),
