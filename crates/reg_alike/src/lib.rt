@@ -12,7 +12,7 @@
 //! ([`compactions_step_alike`]).
 //!
 //! It doesn't say which records a compaction may drop; `reg_floored` does. It has no code that runs
-//! and no tests of its own; `world_cases` runs compacted nodes beside the log.
+//! and no tests of its own.
 #![tactic(auto)]
 
 mod laws;

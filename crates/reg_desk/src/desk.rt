@@ -29,8 +29,8 @@ use std::sync::{Mutex, Wait};
 /// node's follower learns, pulls and publishes, and the view learns, all before the reply is given.
 ///
 /// Contracts see the prefix of the topic's list after the last command (its own or one that it
-/// learnt of), the view's prefix, the count of submits, whether the view shows that command
-/// (*fresh*), and what wakes the other nodes.
+/// learnt of), the view's prefix, the count of submits, whether the view is known to show that
+/// command (*fresh*), and what wakes the other nodes.
 #[derive(Drop)]
 pub struct NodeDesk<
     'a,
@@ -116,15 +116,15 @@ impl<
     }
 
     /// Returns the prefix of the topic's list after the last command, or a longer one that it
-    /// learnt of; `None` before the first.
+    /// learnt of; `None` if there was neither.
     pub fn seen(&self) -> Option<&Seen<Item, Shared, N>>
         ensures { option_map (λ s. s.now) result ≡ self.now.seen }
     {
         self.seen.as_ref()
     }
 
-    /// Returns whether the view shows what this prefix of the topic's list holds. It doesn't if
-    /// memory was refused to the follower or the view after the command.
+    /// Returns whether the view is known to show what this prefix holds. It isn't before the first
+    /// command, and if memory was refused after that command's submit.
     pub fn fresh(&self) -> bool
         ensures fresh { result ≡ self.now.fresh }
         ensures shown { result ≡ true → IsFresh N.first (front_of self.now.seen) self.now.view }

@@ -1,13 +1,13 @@
 //! Desks: the request handlers of a worker.
 //!
 //! A worker has one desk for all its connections. [`FeedDesk`] answers from a feed and passes
-//! commands to a [`Commander`]: the pen ([`PenCommander`]), or [`Nobody`], who refuses them all.
+//! commands to a [`Commander`]: the pen ([`PenCommander`]), or [`Nobody`], which refuses them all.
 //! [`NodeDesk`] answers from the view of a node's follower and submits commands to the topic's pen
 //! itself.
 //!
-//! One idea: a desk remembers how long a list its last answer or command saw, and the next answer
-//! comes from a list that extends it. This memory (its *standing*) travels with a connection to the
-//! next desk, so a client reads its own writes, whichever worker serves it.
+//! One idea: a desk remembers the prefix of the list that its last answer or command saw, and the
+//! next answer comes from a list that extends it. This memory (its *standing*) travels with a
+//! connection to the next desk, so a connection reads its own writes, whichever worker serves it.
 //!
 //! The second idea: a registration is judged before the pen is taken ([`Ruling`]). Under the pen
 //! there is only a test whether the judgement still fits ([`submit_ruled`]).

@@ -11,7 +11,9 @@ use reg_node::{Case, ShowsRegistry, View};
 /// A registration, and its judgement.
 #[derive(Drop)]
 pub struct Ruling {
+    /// The registration, with what it was checked against.
     pub case: Case,
+    /// Its judgement.
     pub judged: Judged,
 }
 

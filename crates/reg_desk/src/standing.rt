@@ -56,7 +56,7 @@ impl<N: FeedName<Item, Shared>, M: FeedName<Draw, Taken>> Standing<N, M> {
         &self.node
     }
 
-    /// Returns whether the node's prefix shows the topic's.
+    /// Returns whether the node's prefix is known to show the topic's.
     pub fn fresh(&self) -> bool
         ensures { result ≡ self.now.fresh }
     {

@@ -12,8 +12,9 @@
 //! model of what a crash may leave. The proofs speak of such a disk; a real one that loses synced
 //! bytes is outside them.
 //!
-//! [`submits_keep_the_file`] is the theorem: after each submit, and after any crash, the file says
-//! what the pen has published. [`opens_keep_the_file`] says the same of a start.
+//! [`submits_keep_the_file`] is the theorem: after each submit, and after any crash from then on,
+//! the file says what the pen has published, up to a compaction. [`opens_keep_the_file`] says the
+//! same of a start.
 //!
 //! Tests of the journal below it: `test_log`.
 #![tactic(auto)]

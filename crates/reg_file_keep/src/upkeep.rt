@@ -16,6 +16,7 @@ use std::alloc::Global;
 /// What a keep knows of its file.
 #[derive(Clone, Copy, Debug, PartialEq, Eq)]
 pub(crate) struct Upkeep {
+    /// What is known of the file's lines.
     pub room: Room,
     /// The floor of the next compaction of the file: the next offset at its last compaction, or at
     /// first the file's own floor. So each delete survives at least one compaction.

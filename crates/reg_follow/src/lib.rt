@@ -9,7 +9,7 @@
 //! faulty line ends the taking and then the program; the end of the input doesn't: the ports go on
 //! with what they have.
 //!
-//! It doesn't find or watch files (whoever calls it gives a reader), and it doesn't check that the
+//! It doesn't open or watch files (its caller gives a reader), and it doesn't check that the
 //! records are those that a registry's commands write.
 //!
 //! [`answers_are_of_first_lines`] is the theorem about answers, and [`follow_lines`] says in its

@@ -54,6 +54,7 @@ pub enum JoinOutcome {
 /// The outcome of a command, with the prefix of the list that shows it.
 #[derive(Drop)]
 pub struct JoinSubmitted<N: FeedName<Item, Shared>> {
+    /// The outcome.
     pub outcome: JoinOutcome,
     /// The published list after the submit, with what the command wrote if that is published;
     /// `None` if it wasn't submitted.

@@ -10,7 +10,7 @@ use reg_records::Record;
 use std::alloc::AllocError;
 use std::mem;
 
-/// How a keep stands to what its chain told.
+/// The state of a keep towards its chain.
 #[derive(Drop)]
 pub enum Stand {
     /// All that was told is taken: a batch that is lent is appended to the chain.
@@ -47,7 +47,7 @@ impl<C: Chain + Drop> JoinKeep<C> {
         }
     }
 
-    /// Returns how the keep stands to what was told.
+    /// Returns its state towards the chain.
     pub fn stand(&self) -> &Stand
         ensures { result.now ≡ self.now.stand }
     {

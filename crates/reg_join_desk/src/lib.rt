@@ -7,8 +7,8 @@
 //! a second at most.
 //!
 //! One idea: waiting is bounded. [`LogWaits`] counts the workers of a port that wait, so that one
-//! is left for what needs no log, and no more than half of them wait with lookups. A command is
-//! tried for 30 s, a lookup waits for 1 s.
+//! is left for what needs no log, and about half of them for commands. A command that others
+//! overtake is decided again for 30 s at most, and a lookup waits for about 1 s at most.
 //!
 //! This crate doesn't speak with the store and starts no thread; `reg_join_service` does.
 //!

@@ -46,8 +46,8 @@ impl fmt::Display for Told {
 }
 
 impl JoinError {
-    /// Returns the exit status of a program that ends with this error: 2 if the base or the history
-    /// is at fault, 1 if serving failed.
+    /// Returns the exit status of a program that ends with this error: 2 if the base is at fault or
+    /// `ready` was never told, else 1.
     pub fn status(&self) -> u8 {
         match self {
             JoinError::Base(error) => error.status(),

@@ -99,8 +99,8 @@ struct Adapter<B: Drop, O: Drop> {
 }
 
 /// Opens the pen over a base, starts to talk with the adapter, and goes on with the history.
-// The adapter is lent and taken out, since the prover covers no function that owns what holds a type parameter and names types made of one;
-// `held` is lent below for the same reason.
+// The adapter is lent and taken out, since the prover covers no function that owns what holds a
+// type parameter and names types made of one; `held` is lent below for the same reason.
 fn serve_base<
     N: FeedName<Item, Shared> + Send + Sync,
     B: BufRead + Send + Drop + 'static,

@@ -1,5 +1,6 @@
-// Nodes over one topic. Each feed has a name of its own, which is picked where the function that is
-// generic in it is called; so each node's feed has a function of its own, each calling the next.
+// Nodes over one topic. Each feed has a name of its own as a type, picked at the call of the
+// function that is generic in it; so each node's feed has a function of its own, which calls the
+// next.
 ghost use Rattle.std.specs.Prelude.{◌≡◌};
 ghost use Rattle.std.specs.FinSet.{empty};
 ghost use Rattle.reg_topic.specs.Topic.{topic_from};

@@ -1,4 +1,5 @@
-// Threads over one, two or three nodes, of which each has types of its own. The server of a node that isn't there is none.
+// Threads over one, two or three nodes, each with types of its own. A node that doesn't exist has
+// no server.
 use crate::common::Common;
 use reg_serve::{
     Follow, NodeServer, Observe, SharedDesk, StartError, begin, follow_list, open_node,

@@ -21,8 +21,9 @@ const PART: u64 = 4;
 pub struct Deletes {
     /// The floor of the kept set.
     pub floor: u64,
-    /// How many deletes (records without a value) were written since the floor last rose and before
-    /// the last compaction. Those that the topic began with count from its first compaction on.
+    /// How many deletes (records without a value) were written before the last compaction, counted
+    /// from the compaction before the one that last raised the floor. Those that the topic began
+    /// with count from its first compaction on.
     pub due: u64,
     /// How many deletes were written since the last compaction.
     pub new: u64,

@@ -8,8 +8,8 @@
 //! the batch stays pending and the client gets an `Unsettled` reply; the next command publishes it
 //! first. So no batch is published that isn't kept, and readers see a lawful list at all times.
 //!
-//! Every 64 batches the pen also publishes a compaction, which drops what lookups don't need; its
-//! floor (the low-water mark) rises only if many deletes are due.
+//! [`Pen::submit_and_compact`] also publishes a compaction every 64 batches, which drops what
+//! lookups don't need; its floor (the low-water mark) rises only if many deletes are due.
 //!
 //! The pen has no lock of its own: callers put it in a `Mutex`, and each has a [`Pass`], which
 //! counts its submits.

@@ -55,7 +55,9 @@ pub enum Pending {
 /// A reply, with the published list that it belongs to.
 #[derive(Drop)]
 pub struct Submitted<N: FeedName<Item, Shared>> {
+    /// The reply to the command.
     pub reply: Reply,
+    /// The published list after the submit.
     pub seen: Seen<Item, Shared, N>,
 }
 
@@ -110,7 +112,9 @@ pub struct Opened<
     K: Keep + Drop,
     R: Wait + Drop,
 > {
+    /// The pen.
     pub pen: Pen<N, S, K, R>,
+    /// The passes, unused so far.
     pub passes: Vec<Pass<N>>,
 }
 

@@ -13,7 +13,9 @@ use std::alloc::{AllocError, Global};
 /// A request handler over one registry, which applies what commands write.
 #[derive(Debug, Drop)]
 pub struct FoldDesk {
+    /// The allocator for all that it makes.
     pub alloc: Global,
+    /// The registry that answers.
     pub registry: Registry,
     /// The offset of the next record that is written.
     pub next: u64,

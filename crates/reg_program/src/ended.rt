@@ -23,7 +23,8 @@ pub enum Ended {
 }
 
 impl Ended {
-    /// Returns the exit status: 0 if all went well, 2 for wrong words or input, else 1.
+    /// Returns the exit status: 0 if all went well, 2 if the words aren't a command, the log is
+    /// faulty or a line isn't a schema, else 1.
     pub fn status(&self) -> u8
         ensures { result ≡ exit_status self.now }
     {

@@ -7,8 +7,8 @@
 //! One idea: one candidate is enough. [`batches_are_of_candidates`] is the theorem: if any
 //! command's step writes the batch, the candidate's does, so no lawful batch is refused.
 //!
-//! It doesn't decide commands (`reg_leader` does) and doesn't say who wrote a batch: two commands
-//! may write the same records, with different replies.
+//! It doesn't decide commands (`reg_leader` does), and it can't tell which command really wrote a
+//! batch: two commands may write the same records, with different replies.
 //!
 //! Tests: `rule_cases`.
 #![tactic(auto)]

@@ -5,15 +5,15 @@
 //! list of a world's events, with the outcomes that the callers got. So what `reg_world` proves of
 //! every list of events holds of running nodes.
 //!
-//! It has no code that runs. It doesn't cover threads and sockets, and a keep that is changed while
-//! it is lent is outside it.
+//! It has no code that runs, and it doesn't cover threads and sockets.
 //!
 //! [`running_nodes_are_a_world`] is the bridge, and [`running_nodes_keep_the_headline`] the
-//! theorem: nodes answer as the log they took, an id names one schema for good, and each registered
-//! version met its level. [`pens_keep_what_they_publish`] says that no batch is published that its
-//! keep hasn't taken, and [`same_sets_give_same_bytes`] compares responses byte by byte.
+//! theorem: nodes answer as the sets do that they took, an id names one schema for good, and each
+//! registered version met its level. [`pens_keep_what_they_publish`] says that no batch is
+//! published that its keep hasn't taken, and [`same_sets_give_same_bytes`] compares responses byte
+//! by byte.
 //!
-//! Tests: `world_cases` runs pens, nodes and desks beside a world.
+//! Tests: `world_cases`, which also runs drawn scripts at three nodes and in a world beside them.
 #![tactic(auto)]
 
 mod laws;

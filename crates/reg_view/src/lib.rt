@@ -3,11 +3,12 @@
 //! A feed is a replicated log of items that comes with the value which the items fold to. If this
 //! value shows a registry ([`ShowsRegistry`]), a [`View`] answers queries from it. Each view
 //! remembers the prefix that it saw or learnt of, and each later answer comes from a published list
-//! that begins with that prefix. So a view never goes back in time, and a client that was told of a
-//! write sees it.
+//! that begins with that prefix. So a view never goes back in time, and once it has learnt of a
+//! write, its answers show it.
 //!
 //! The view also copies what a registration has to be checked against ([`Case`]), so that a long
-//! check runs without holding anything. Whoever writes asks later whether the case still stands.
+//! check holds up nobody. Before the write the caller asks whether the case still fits
+//! ([`Case::stands`]).
 //!
 //! This crate writes nothing and starts no thread; when a view learns of newer prefixes is its
 //! owner's business.

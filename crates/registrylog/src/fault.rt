@@ -47,8 +47,8 @@ impl KeepError {
         }
     }
 
-    /// Returns the exit status of a program that ends with this error: 2 if the log is at fault, 1
-    /// if the system is.
+    /// Returns the exit status of a program that ends with this error: 2 if the log is in use,
+    /// missing, there already, faulty or can't be served, else 1.
     pub(crate) fn status(self) -> u8 {
         match self {
             KeepError::InUse | KeepError::Missing | KeepError::Exists => 2,

@@ -3,10 +3,10 @@
 //!
 //! `registrylog keep` serves the log of a file, `registrylog tail` writes its lines as they are
 //! acknowledged, and `registrylog follow` serves lines as they come. `registrylog join` serves a
-//! log that other processes write too, as an adapter tells it. `registrylog rules` writes the
-//! number of rules that such processes have to share. `registrylog check` writes what a log holds,
-//! `registrylog compact` the lines of its last records, and `registrylog base` the base that a log
-//! from an offset on begins with. `registrylog help COMMAND` lists the options of each.
+//! log that other processes write too, as an adapter tells it; `registrylog --rules` prints the
+//! number of the rules that such processes have to share. `registrylog check` writes what a log
+//! holds, `registrylog compact` the lines of its last records, and `registrylog base` the base that
+//! a log from an offset on begins with. `registrylog help COMMAND` lists the options of each.
 //!
 //! This crate ties these to the system: files and locks, ports, metrics and messages. What is
 //! proved is in the crates below, first of all `reg_pen`, `reg_file_keep` and `reg_join`.
