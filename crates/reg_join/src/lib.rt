@@ -1,8 +1,9 @@
 //! A pen (the single writer of its process) over a log that other processes write too.
 //!
-//! The log is a *chain* of batches ([`Chain`]): a process appends a batch only behind all that it
-//! was told, so one of two processes that write at once is told that it was overtaken. It takes in
-//! what the other wrote, decides its command again, and tries again ([`submit_joined`]).
+//! The log is a *chain* of batches ([`Chain`]), which *tells* each process, in order, what the
+//! others wrote. A process can append a batch only after all that it was told, so if two write at
+//! once, one learns that it was overtaken. It takes in what the other wrote, decides its command
+//! again, and tries again ([`submit_joined`]).
 //!
 //! One idea: a batch of others is never copied blindly. The command that may have written it is
 //! found and decided here, and the batch is taken only if the same records come out. So each

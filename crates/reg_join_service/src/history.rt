@@ -16,8 +16,8 @@ use std::time::{Clock, Duration};
 /// If an adapter tells nothing for this long before `ready`, in seconds, the operator is told.
 const SILENT_FOR: u64 = 30;
 
-/// Takes in all that is told before `ready`. If no command writes a batch, the rest is left. Fails
-/// if memory is refused, or if the input ends before `ready`.
+/// Takes in all that is told before `ready`. At a batch that no command writes it stops taking in,
+/// and leaves the rest. Fails if memory is refused, or if the adapter ends before `ready`.
 pub(crate) fn take_history<
     N: FeedName<Item, Shared>,
     S: Copies<Item, Shared, N>,

@@ -1,13 +1,13 @@
 //! A process that serves a log which other processes write too.
 //!
-//! An *adapter*, a program beside it, speaks with the store: it tells the base (a log), then the
-//! batches behind it, then `ready`, then what others write; and it appends what this process asks
-//! it to. [`serve_joined`] reads the base, takes in all up to `ready`, and then serves its ports,
+//! An *adapter*, a program beside it, speaks with the store. It tells the base (a log), then the
+//! batches after it, then `ready`, then what others write; and it appends what this process asks it
+//! to. [`serve_joined`] reads the base, takes in all up to `ready`, and then serves its ports,
 //! while one thread takes in what is told.
 //!
 //! One idea: each batch of others is decided again before it is taken. So processes that share a
-//! log need the same [`RULES`], and a batch that no command writes stops the taking in; [`Watch`]
-//! tells the operator, and lookups go on.
+//! log need the same [`RULES`]. At a batch that no command writes nothing more is taken in;
+//! [`Watch`] tells the operator, commands are refused, and lookups go on.
 //!
 //! It doesn't speak with a store, and it keeps no file.
 //!

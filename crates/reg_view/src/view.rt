@@ -27,7 +27,7 @@ use std::alloc::{AllocError, Global};
 use std::marker::Model;
 
 /// A snapshot of a feed that answers queries and never blocks. Contracts see it as the prefix of
-/// the feed's list (its *front*) that it saw or was told of.
+/// the feed's list (its *front*) that it saw or learnt of.
 #[derive(Drop)]
 pub struct View<T: Drop, V: ShowsRegistry<T> + Drop, N: FeedName<T, V>, S: Copies<T, V, N>> {
     alloc: Global,
@@ -54,7 +54,7 @@ impl<T: Drop, V: ShowsRegistry<T> + Drop, N: FeedName<T, V>, S: Copies<T, V, N>>
         View { alloc, reader }
     }
 
-    /// Returns the prefix that it saw or was told of.
+    /// Returns the prefix that it saw or learnt of.
     pub fn seen(&self) -> &Seen<T, V, N>
         ensures { result.now ≡ self.now }
     {
@@ -70,7 +70,7 @@ impl<T: Drop, V: ShowsRegistry<T> + Drop, N: FeedName<T, V>, S: Copies<T, V, N>>
         self.reader.learn(told);
     }
 
-    /// Answers a query from a published list that extends all that this view saw or was told of;
+    /// Answers a query from a published list that extends all that this view saw or learnt of;
     /// that list then counts as seen. It never blocks. The only error is out of memory; it also
     /// comes if the feed's writer is gone.
     ///
@@ -101,7 +101,7 @@ impl<T: Drop, V: ShowsRegistry<T> + Drop, N: FeedName<T, V>, S: Copies<T, V, N>>
         }
     }
 
-    /// Judges a registration over a published list that extends all that this view saw or was told
+    /// Judges a registration over a published list that extends all that this view saw or learnt
     /// of; that list then counts as seen. `None` for every other command, and if the new text, or
     /// that of a live version that the level looks at, isn't a schema. The only error is out of
     /// memory; it also comes if the feed's writer is gone.
@@ -133,8 +133,8 @@ impl<T: Drop, V: ShowsRegistry<T> + Drop, N: FeedName<T, V>, S: Copies<T, V, N>>
     }
 
     /// Makes the case of a registration over a published list that extends all that this view saw
-    /// or was told of. `None` for every other command, and if the text isn't a schema. The only
-    /// error is out of memory; it also comes if the feed's writer is gone.
+    /// or learnt of. `None` for every other command, and if the text isn't a schema. The only error
+    /// is out of memory; it also comes if the feed's writer is gone.
     pub fn case(&mut self, command: &Command) -> Result<Option<Case>, AllocError>
         ensures case { IfOk result (λ found. IfSome found (IsMatterOf (last_records (V.comes_to N.first self.new)) command.now)) }
         ensures answers_for { IfOk result (λ found. IfSome found (IsMatterOf (V.answers_for N.first self.new) command.now)) }
