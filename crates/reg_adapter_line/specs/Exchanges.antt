@@ -57,8 +57,8 @@ pub record IsTaken (s : Exchange) : Type 0 where
   pub goes_on : s.end ≡ None
   pub waited_for : (s.answer ≢ None) ⊎ (s.conversation.waits ≡ true)
 
--- so many batches are due before `ready` that the next message waits
+-- so many batches are due that the next message waits: nobody waits for an answer, which may stand behind
 pub record IsFull (s : Exchange) : Type 0 where
-  pub before_ready : s.is_ready ≡ false
+  pub nobody_waits : s.conversation.waits ≡ false
   pub goes_on : s.end ≡ None
   pub many : DUE_LIMIT ≤ length s.conversation.due

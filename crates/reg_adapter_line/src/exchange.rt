@@ -9,7 +9,8 @@ use reg_chain::ChainAnswer;
 use reg_records::Record;
 use std::alloc::Global;
 
-/// So many batches may be due before `ready` was read. A reader waits then: nothing is asked before `ready`, so nobody waits for what it reads.
+/// So many batches may be due while nobody waits for an answer: a reader waits then until some were taken. Where somebody waits it reads on, since
+/// the answer stands behind them.
 pub(crate) const DUE_LIMIT: usize = 4_096;
 
 /// What a process and its adapter said to each other, and what is to be done about it.
@@ -132,7 +133,9 @@ impl Exchange {
     pub(crate) fn is_full(&self) -> bool
         ensures { IsTrue result ↔ IsFull self.now }
     {
-        !self.is_ready && self.end.is_none() && self.conversation.due_count() >= DUE_LIMIT
+        !self.conversation.is_waited_for()
+            && self.end.is_none()
+            && self.conversation.due_count() >= DUE_LIMIT
     }
 
     /// Whether nothing can be taken up: nothing is due, `ready` wasn't read, and it isn't over.

@@ -26,7 +26,7 @@ pub struct AdapterLine {
     heard: Condvar,
     /// A request is to be written, or it is over.
     asked: Condvar,
-    /// A batch was handed out, or it is over.
+    /// A batch was handed out, somebody waits for an answer, or it is over.
     taken: Condvar,
     grown: Parker,
     pub(crate) stalls: Stalls,
@@ -116,6 +116,7 @@ impl AdapterLine {
             return answer;
         }
         self.asked.notify_one();
+        self.taken.notify_one();
         let (mut exchange, _result) = self
             .heard
             .wait_timeout_while(rt, exchange, patience, |held| held.is_waiting());
@@ -135,7 +136,7 @@ impl AdapterLine {
         batch
     }
 
-    /// Takes a message, before `ready` once there is room for it. Where memory is refused for it it tries again.
+    /// Takes a message once there is room for it. Where memory is refused for it it tries again.
     pub(crate) fn tell<R: Wait + Clock>(&self, rt: &R, told: AdapterMessage) {
         let mut told = told;
         for _ in rt.forever() {
@@ -166,7 +167,7 @@ impl AdapterLine {
         exchange.request.take()
     }
 
-    /// Takes a message, before `ready` once there is room for it, and gives it back where memory is refused.
+    /// Takes a message once there is room for it, and gives it back where memory is refused.
     fn hear<R: Wait>(&self, rt: &R, told: AdapterMessage) -> Option<AdapterMessage> {
         let exchange = self.exchange.lock(rt);
         let mut exchange = self.taken.wait_while(rt, exchange, |held| held.is_full());

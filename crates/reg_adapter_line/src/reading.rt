@@ -28,9 +28,9 @@ enum Piece {
     End(LineEnd),
 }
 
-/// Reads messages to the end of the input, and tells the line of each, which is overheard. It waits for nothing but the input, except that before
-/// `ready` it waits while 4,096 batches are due. Where memory is refused for a message it is told again, 20 ms later: none is lost. It returns
-/// once the line is over, and then a read at the latest.
+/// Reads messages to the end of the input, and tells the line of each, which is overheard. It waits for nothing but the input, and
+/// while 4,096 batches are due and nobody waits for an answer. Where memory is refused for a message it is told again, 20 ms later:
+/// none is lost. It returns once the line is over, and then a read at the latest.
 pub fn read_messages<B: BufRead, R: Wait + Clock, H: Overhear>(
     rt: &R,
     alloc: Global,

@@ -13,6 +13,7 @@ use Rattle.reg_desk.proofs.Told.{same_front}
 use Rattle.reg_chain.specs.declared.chain.ChainAnswer.{ChainAnswer}
 use Rattle.reg_join.specs.Ending.{ComesTo, Ends, whole_list}
 use Rattle.reg_join.specs.Joined.{IsJoined}
+use Rattle.reg_join.specs.Taking.{StopsAtNobodys}
 use Rattle.reg_join.specs.declared.commanding.JoinOutcome.{JoinOutcome}
 use Rattle.reg_join.specs.declared.commanding.JoinOutcome.TheVariants as outcomes
 use Rattle.reg_join.specs.declared.join_keep.JoinKeep.{JoinKeep}
@@ -47,8 +48,8 @@ module _ {C : Type 0} (told : C → List (List Record)) (answers : C → List Re
   pub is_ordered : (covered old new : PenState (JoinKeep C)) (since : List Item) (c : Command) (outcome : JoinOutcome) (seen : Option (List Item))
       → IsPrefix since covered.published → old ≡ covered → Ends told answers base old c outcome seen new
       → IsPen base old.published old.pending → IsJoined told old → IsJoined told new → IsPrefix old.published new.published
-      → IsOrdered told answers base since c outcome seen
-  is_ordered covered old new since c outcome seen begun same ends was was_joined joined grows = record {
+      → StopsAtNobodys told base new → IsOrdered told answers base since c outcome seen
+  is_ordered covered old new since c outcome seen begun same ends was was_joined joined grows stops = record {
     old = old;
     was = was;
     was_joined = was_joined;
@@ -56,6 +57,7 @@ module _ {C : Type 0} (told : C → List (List Record)) (answers : C → List Re
     new = new;
     joined = joined;
     grows = grows;
+    stops = stops;
     ends = ends;
   }
 

@@ -13,6 +13,7 @@ use Rattle.reg_pen.specs.Pen.{IsPen, PenState}
 use Rattle.reg_chain.specs.declared.chain.ChainAnswer.{ChainAnswer}
 use Rattle.reg_join.specs.Ending.{Ends}
 use Rattle.reg_join.specs.Joined.{IsJoined}
+use Rattle.reg_join.specs.Taking.{StopsAtNobodys}
 use Rattle.reg_join.specs.declared.commanding.JoinOutcome.{JoinOutcome}
 use Rattle.reg_join.specs.declared.commanding.JoinOutcome.TheVariants as outcomes
 use Rattle.reg_join.specs.declared.join_keep.JoinKeep.{JoinKeep}
@@ -44,7 +45,8 @@ ShowsTold judged (Some told) front = ShowsLonger judged told front
 
 module _ {C : Type 0} (told : C → List (List Record)) (answers : C → List Record → ChainAnswer → C → Type 0) (base : Topic) where
   -- the command was done at a lawful pen whose batches were those that its chain told, and are afterwards, and whose list began with all
-  -- that whoever asked had seen: what that came to, and the list that was told, if one was
+  -- that whoever asked had seen: what that came to, and the list that was told, if one was. The pen is stopped then only where the chain
+  -- told a batch that no command writes
   pub record IsOrdered (since : List Item) (c : Command) (outcome : JoinOutcome) (seen : Option (List Item)) : Type 0 where
     pub old : PenState (JoinKeep C)
     pub was : IsPen base old.published old.pending
@@ -53,6 +55,7 @@ module _ {C : Type 0} (told : C → List (List Record)) (answers : C → List Re
     pub new : PenState (JoinKeep C)
     pub joined : IsJoined told new
     pub grows : IsPrefix old.published new.published
+    pub stops : StopsAtNobodys told base new
     pub ends : Ends told answers base old c outcome seen new
 
   -- a registration is judged over a list that begins with all that was seen; the command is done at the pen; its reply is that of what it

@@ -8,7 +8,7 @@ ghost use Rattle.reg_pen.specs.Pen.{IsPen};
 ghost use Rattle.reg_join.specs.Ending.{Ends};
 ghost use Rattle.reg_join.specs.Joined.{IsJoined};
 ghost use Rattle.reg_join.specs.Joining.{IsNotAsked};
-ghost use Rattle.reg_join.specs.Taking.{Takes, TellsTaken};
+ghost use Rattle.reg_join.specs.Taking.{StopsAtNobodys, Takes, TellsTaken};
 
 use reg_chain::Chain;
 use reg_feed::{Copies, FeedName, FeedReader, NoPlace, Seen};
@@ -24,8 +24,9 @@ use std::marker::Model;
 use std::sync::Wait;
 
 /// The single writer of one process over a shared log: a pen whose batches are those that its keep
-/// took of what the chain told, in their order, none of them lost. Contracts see the pen. Callers
-/// put it in a `Mutex`.
+/// took of what the chain told, in their order, none of them lost. It takes nothing any more only
+/// where the chain told a batch that no command writes. Contracts see the pen. Callers put it in a
+/// `Mutex`.
 #[derive(Drop)]
 pub struct JoinedPen<
     N: FeedName<Item, Shared>,
@@ -40,14 +41,16 @@ pub struct JoinedPen<
 impl<N: FeedName<Item, Shared>, S: Copies<Item, Shared, N>, C: Chain + Drop, R: Wait + Drop> Model
     for JoinedPen<N, S, C, R> {
     ghost use Rattle.reg_pen.specs.Pen.{PenState};
+    ghost use Rattle.reg_shared.specs.Held.{base_of};
     ghost use Rattle.reg_join.specs.Joined.{IsJoined};
+    ghost use Rattle.reg_join.specs.Taking.{StopsAtNobodys};
     ghost use Rattle.reg_join.specs.declared.join_keep.JoinKeep.{JoinKeep};
 
     ghost Value = { PenState (JoinKeep C) };
 
     ghost view = { λ p. p.pen.value };
 
-    ghost invariant = { λ p. IsJoined C.told p.pen.value };
+    ghost invariant = { λ p. IsJoined C.told p.pen.value × StopsAtNobodys C.told (base_of N.first) p.pen.value };
 }
 
 impl<
@@ -59,7 +62,8 @@ impl<
     /// Makes one of a pen that was opened over a chain which had told nothing; no id mark may have
     /// been due.
     pub fn new(pen: Box<Pen<N, S, JoinKeep<C>, R>>) -> JoinedPen<N, S, C, R>
-        requires { IsJoined C.told pen.value }
+        requires joined { IsJoined C.told pen.value }
+        requires stops { StopsAtNobodys C.told (base_of N.first) pen.value }
         ensures { result ≡ pen.value }
     {
         JoinedPen { pen }
@@ -73,6 +77,7 @@ impl<
         ensures own { IsNotAsked self.old.keep self.new.keep }
         ensures taken { IfOk result (λ taken. Takes taken self.old self.new) }
         ensures told { IfOk result (λ taken. TellsTaken C.told taken self.old self.new) }
+        ensures stops { StopsAtNobodys C.told (base_of N.first) self.new }
     {
         take_in(alloc, &mut self.pen, pass)
     }
@@ -93,6 +98,7 @@ impl<
         ensures was_joined { IsJoined C.told self.old }
         ensures joined { IsJoined C.told self.new }
         ensures grows { IsPrefix self.old.published self.new.published }
+        ensures stops { StopsAtNobodys C.told (base_of N.first) self.new }
         ensures ends { Ends C.told C.answers (base_of N.first) self.old command.now result.outcome result.seen self.new }
     {
         // This call's contract says that the pen's list is lawful.

@@ -6,4 +6,4 @@ pub returns-clause-ends : goal.returns-clause-ends
 returns-clause-ends g c =
     ends_given g.C.Chain.told g.C.Chain.answers (base_of g.N.FeedName.first) c.deref_mut.result.now c.self.inside.pen.value
     c.args.self.now c.submit_joined.new.pen c.args.command.now c.submit_joined.result.outcome c.submit_joined.result.seen
-    (cc c.deref_mut.ensures.value) c.self.view_is c.self.invariant c.submit_joined.ensures.ends
+    (cc c.deref_mut.ensures.value) c.self.view_is c.self.invariant.0 c.submit_joined.ensures.ends
