@@ -2,7 +2,8 @@
 use Rattle.std.proofs.Common.{◌≡◌, ℕ, ◌≤◌, List, Some}
 use Rattle.reg_rules.specs.avro_schema.Schema.{Meaning, schema_of}
 use Rattle.reg_rules.specs.reg_values.Value.{value_of}
-use Rattle.reg_rules.specs.reg_records.Written.{HasLine, IsInLimits, written_value}
+use Rattle.reg_rules.specs.reg_records.Written.{HasLine, IsInLimits}
+use Rattle.reg_rules.specs.reg_records.WrittenValue.{written_value}
 use Rattle.reg_rules.specs.reg_values.OfKey.{IsValueOf}
 use Rattle.reg_rules.specs.reg_records.declared.key.Key.{Key}
 use Rattle.reg_rules.specs.reg_records.declared.limits.TheConstants.{OFFSET_LIMIT}

@@ -7,7 +7,7 @@ use Rattle.reg_rules.specs.reg_entries.TwoSchemas.{NoneIsOneTextEach}
 use Rattle.reg_rules.specs.reg_entries.declared.entry.Entry.{Entry}
 use Rattle.reg_rules.specs.reg_fold.Entries.{EntriesAreInLimits, EntriesAreRead}
 use Rattle.reg_rules.specs.reg_fold.Opaque.{is_version}
-use Rattle.reg_rules.specs.reg_records.Written.{written_value}
+use Rattle.reg_rules.specs.reg_records.WrittenValue.{written_value}
 use Rattle.reg_rules.specs.reg_records.declared.record.Record.{Record}
 use Rattle.reg_rules.specs.Writings.{numbered, removed, written_at}
 use Rattle.reg_rules.specs.declared.writing.Writing.{Writing}

@@ -21,7 +21,8 @@ use Rattle.reg_rules.specs.reg_level_names.declared.level.Level.TheVariants as l
 use Rattle.reg_rules.specs.reg_modes.InForce.{mode, own_mode}
 use Rattle.reg_rules.specs.reg_modes.Permitted.{may_register, may_write}
 use Rattle.reg_rules.specs.reg_values.Value.{value_of}
-use Rattle.reg_rules.specs.reg_records.Written.{HasLine, IsInLimits, IsVersionOrId, written_value}
+use Rattle.reg_rules.specs.reg_records.Written.{HasLine, IsInLimits, IsVersionOrId}
+use Rattle.reg_rules.specs.reg_records.WrittenValue.{written_value}
 use Rattle.reg_rules.specs.reg_values.OfKey.{IsValueOf}
 use Rattle.reg_rules.specs.reg_records.declared.limits.TheConstants.{OFFSET_LIMIT}
 use Rattle.reg_rules.specs.reg_records.declared.value.Value.{Value}

@@ -13,7 +13,7 @@ use Rattle.reg_rules.specs.reg_fold.Closed.{is_closed}
 use Rattle.reg_rules.specs.reg_fold.Entries.{EntriesAreOfPlaces, entries, entry_in, entry_of, normal_of}
 use Rattle.reg_rules.specs.reg_fold.Opaque.{NoneIsNoOpaqueLast, is_opaque, is_version}
 use Rattle.reg_rules.specs.reg_values.Value.{value_of, value_of_text}
-use Rattle.reg_rules.specs.reg_records.Written.{written_value}
+use Rattle.reg_rules.specs.reg_records.WrittenValue.{written_value}
 use Rattle.reg_rules.specs.reg_records.declared.key.Key.{Key}
 use Rattle.reg_rules.specs.reg_records.declared.key.Key.TheVariants as keys
 use Rattle.reg_rules.specs.reg_records.declared.record.Record.{Record}

@@ -1,7 +1,8 @@
 -- Soft deletes of subjects in batches. Below, rs are the last records before the batch and n is the next offset.
 use Rattle.std.specs.Prelude.{◌≡◌, ◌⊎◌, ℕ, List, [], ◌∷◌, false, Some, All}
 use Rattle.reg_rules.specs.reg_fold.Standing.{greatest_version}
-use Rattle.reg_rules.specs.reg_records.Written.{IsVersionOrId, written_value}
+use Rattle.reg_rules.specs.reg_records.Written.{IsVersionOrId}
+use Rattle.reg_rules.specs.reg_records.WrittenValue.{written_value}
 use Rattle.reg_rules.specs.reg_records.Key.{is_delete}
 use Rattle.reg_rules.specs.reg_records.declared.key.Key.TheVariants as keys
 use Rattle.reg_rules.specs.reg_records.declared.record.Record.{Record}

@@ -5,7 +5,8 @@ use Rattle.reg_rules.specs.avro_schema.Schema.{Meaning, schema_of}
 use Rattle.reg_rules.specs.reg_entries.declared.entry.Entry.{Entry}
 use Rattle.reg_rules.specs.reg_fold.Entries.{entries}
 use Rattle.reg_rules.specs.reg_fold.Opaque.{is_version}
-use Rattle.reg_rules.specs.reg_records.Written.{IsVersionOrId, written_value}
+use Rattle.reg_rules.specs.reg_records.Written.{IsVersionOrId}
+use Rattle.reg_rules.specs.reg_records.WrittenValue.{written_value}
 use Rattle.reg_rules.specs.reg_records.declared.key.Key.TheVariants as keys
 use Rattle.reg_rules.specs.reg_records.declared.record.Record.{Record}
 use Rattle.reg_rules.specs.reg_records.declared.value.Value.TheVariants as values

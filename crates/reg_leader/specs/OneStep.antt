@@ -5,7 +5,8 @@ use Rattle.reg_rules.specs.reg_fold.InForce.{level}
 use Rattle.reg_rules.specs.reg_fold.Standing.{live}
 use Rattle.reg_rules.specs.reg_levels.Texts.{TextsMeet}
 use Rattle.reg_rules.specs.reg_values.Value.{value_of}
-use Rattle.reg_rules.specs.reg_records.Written.{HasLine, written_value}
+use Rattle.reg_rules.specs.reg_records.Written.{HasLine}
+use Rattle.reg_rules.specs.reg_records.WrittenValue.{written_value}
 use Rattle.reg_rules.specs.reg_records.declared.key.Key.TheVariants as keys
 use Rattle.reg_rules.specs.reg_records.declared.limits.TheConstants.{OFFSET_LIMIT}
 use Rattle.reg_rules.specs.reg_records.declared.record.Record.{Record}

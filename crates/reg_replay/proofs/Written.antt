@@ -10,7 +10,8 @@ use Rattle.reg_leader.specs.reg_modes.Mode.{mode_named, mode_text}
 use Rattle.reg_leader.specs.reg_modes.declared.mode.Mode.{Mode}
 use Rattle.reg_leader.specs.reg_modes.declared.mode.Mode.TheVariants as modes
 use Rattle.reg_leader.specs.reg_modes.Permitted.{granted}
-use Rattle.reg_leader.specs.reg_records.Written.{IsVersionOrId, written_value}
+use Rattle.reg_leader.specs.reg_records.Written.{IsVersionOrId}
+use Rattle.reg_leader.specs.reg_records.WrittenValue.{written_value}
 use Rattle.reg_leader.specs.reg_records.declared.limits.TheConstants.{NUMBER_LIMIT}
 use Rattle.reg_leader.specs.reg_refusals.declared.refusal.Refusal.{Refusal}
 use Rattle.reg_leader.specs.reg_rules.Tests.{must_be_number, numbers_used_up, refuse_unless}

@@ -4,7 +4,7 @@ use Rattle.reg_modes.specs.reg_level_names.Level.{level_text}
 use Rattle.reg_modes.specs.reg_level_names.declared.level.Level.{Level}
 use Rattle.reg_modes.specs.Mode.{mode_text}
 use Rattle.reg_modes.specs.declared.mode.Mode.{Mode}
-use Rattle.reg_modes.specs.reg_records.Written.{written_value}
+use Rattle.reg_modes.specs.reg_records.WrittenValue.{written_value}
 use Rattle.reg_modes.specs.reg_records.declared.key.Key.TheVariants as keys
 use Rattle.reg_modes.specs.reg_records.declared.record.Record.{Record}
 use Rattle.reg_modes.specs.reg_records.declared.value.Value.TheVariants as values

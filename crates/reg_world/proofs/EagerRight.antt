@@ -11,7 +11,7 @@ use Rattle.std.specs.FinSet.{contains, from_list, insert, contains-from_list, co
 use Rattle.std.specs.List.{filter, list_any, reduce}
 use Rattle.std.specs.Ordering.{eq_by_cmp}
 use Rattle.reg_alike.specs.reg_values.Value.{value_of}
-use Rattle.reg_alike.specs.reg_records.Written.{written_value}
+use Rattle.reg_alike.specs.reg_records.WrittenValue.{written_value}
 use Rattle.reg_alike.specs.reg_values.OfKey.{IsValueOf}
 use Rattle.reg_alike.specs.reg_records.declared.key.Key.{Key}
 use Rattle.reg_alike.specs.reg_records.declared.key.Key.TheVariants as keys
