@@ -13,9 +13,6 @@ use reg_topic::Item;
 use std::sync::Wait;
 use std::time::{Clock, Duration};
 
-/// If an adapter tells nothing for this long before `ready`, in seconds, the operator is told.
-const SILENT_FOR: u64 = 30;
-
 /// Takes in all that is told before `ready`. At a batch that no command writes it stops taking in,
 /// and leaves the rest. Fails if memory is refused, or if the adapter ends before `ready`.
 pub(crate) fn take_history<
@@ -31,7 +28,6 @@ pub(crate) fn take_history<
     pen: &mut JoinedPen<N, S, C, R>,
     watch: &W,
 ) -> Result<(), JoinError> {
-    let mut seconds: u64 = 0;
     for _news in rt.forever() {
         // All that was told before `ready`, or before the end, is due once this was read.
         let (is_ready, is_over) = (line.is_ready(), line.is_over());
@@ -43,23 +39,10 @@ pub(crate) fn take_history<
             return Err(JoinError::NotReady(end_of(rt, line)));
         }
         if !line.wait_for_news(rt, Duration::from_secs(1)) {
-            seconds = wait_on(rt, line, watch, seconds);
-        } else {
-            seconds = 0;
+            line.end_stalls(rt);
         }
     }
     unreachable!()
-}
-
-/// Counts one more silent second. Returns how many there were since the operator was told.
-fn wait_on<R: Wait + Clock, W: Watch>(rt: &R, line: &AdapterLine, watch: &W, seconds: u64) -> u64 {
-    line.end_stalls(rt);
-    let seconds = seconds.saturating_add(1);
-    if seconds < SILENT_FOR {
-        return seconds;
-    }
-    watch.silent();
-    0
 }
 
 /// Takes in all that was told.

@@ -6,10 +6,16 @@ use reg_join_service::{AskedFor, Heard, Overhear, RULES, Watch};
 use reg_meters::microseconds;
 use reg_metrics::AdapterReply;
 use reg_service::{Endpoints, ServiceError};
-use std::alloc::Global;
-use std::io::{self, Eprint, Print};
+use std::alloc::{AllocError, Global};
+use std::io::{self, Eprint, Print, Read};
 use std::net::{Net, TcpListener, TcpStream};
-use std::time::Clock;
+use std::sync::Arc;
+use std::sync::atomic::{AtomicU64, Ordering};
+use std::thread::{self, Threads};
+use std::time::{Clock, Duration};
+
+/// How long an adapter may say nothing at a start before the operator is told, in seconds.
+const SILENT_FOR: u64 = 30;
 
 /// The ports of the nodes.
 #[derive(Drop)]
@@ -52,7 +58,7 @@ impl<R: Net<Listener = TcpListener, Stream = TcpStream> + Eprint + Clock + Drop>
     }
 }
 
-/// Reports on the error output that no command writes a told batch, and that the adapter is silent.
+/// Reports on the error output that no command writes a told batch.
 #[derive(Drop)]
 pub(crate) struct JoinWatch<'a, R: Drop> {
     rt: R,
@@ -70,9 +76,56 @@ impl<R: Eprint + Drop> Watch for JoinWatch<'_, R> {
         self.board.marks.is_unlawful.set(true);
         let _told = self.rt.eprintln(format_args!("batch at offset {offset} is not a command's"));
     }
+}
 
-    fn silent(&self) {
-        let _told = self.rt.eprintln("the adapter has said nothing for 30 s: is its store there?");
+/// A reader of what an adapter tells, which counts the reads that gave something.
+#[derive(Drop)]
+pub(crate) struct HeardInput<S: Drop> {
+    reader: S,
+    reads: Arc<AtomicU64>,
+}
+
+impl<S: Read + Drop> HeardInput<S> {
+    /// Wraps the reader. Until the ports listen, a thread tells the operator of each 30 s in which
+    /// nothing came: at a start an adapter may wait for its store for as long as that takes.
+    pub(crate) fn watched<R: Threads + Clock + Eprint + Copy + Send + Sync + Drop + 'static>(
+        rt: R,
+        alloc: Global,
+        reader: S,
+        board: SharedBoard,
+    ) -> Result<HeardInput<S>, AllocError> {
+        let reads = Arc::new(alloc, AtomicU64::new(0))?;
+        let heard = Arc::try_clone(&reads)?;
+        let _teller = thread::spawn(&rt, move || tell_silences(rt, heard, board));
+        Ok(HeardInput { reader, reads })
+    }
+}
+
+impl<S: Read + Drop> Read for HeardInput<S> {
+    fn read(&mut self, buf: &mut [u8]) -> io::Result<usize> {
+        let read = self.reader.read(buf)?;
+        if read > 0 {
+            self.reads.fetch_add(1, Ordering::SeqCst);
+        }
+        Ok(read)
+    }
+}
+
+/// Tells the operator of each 30 s in which nothing was read, until the ports listen.
+fn tell_silences<R: Clock + Eprint + Drop>(rt: R, reads: Arc<AtomicU64>, board: SharedBoard) {
+    let (mut heard, mut seconds) = (0, 0);
+    for _second in 0..u64::MAX {
+        thread::sleep(&rt, Duration::from_secs(1));
+        if board.marks.listens.is_set() {
+            return;
+        }
+        let now = reads.load(Ordering::SeqCst);
+        seconds = if now == heard { seconds + 1 } else { 0 };
+        heard = now;
+        if seconds >= SILENT_FOR {
+            let _told = rt.eprintln("the adapter has said nothing for 30 s: is its store there?");
+            seconds = 0;
+        }
     }
 }
 

@@ -31,7 +31,7 @@ use crate::ends::{Finished, joined, kept, misread, refused, tailed, told, unlock
 use crate::fault::KeepError;
 use crate::filtering::{Wish, base, check, compact};
 use crate::following::{PIECE, follow};
-use crate::joining::{JoinCounts, JoinPorts, JoinWatch, tell_rules};
+use crate::joining::{HeardInput, JoinCounts, JoinPorts, JoinWatch, tell_rules};
 use crate::keeping::{KeepPorts, ended, open_log, open_short};
 use crate::opening::lock;
 use crate::place::Place;
@@ -128,7 +128,8 @@ fn main(rt: HostRuntime) -> io::Result<Finished> {
             metrics: _,
         } => {
             let place = Place::new(listen, nodes, workers);
-            let input = BufReader::with_capacity(alloc, PIECE, rt.reader())?;
+            let heard = HeardInput::watched(rt, alloc, rt.reader(), Arc::try_clone(&board)?)?;
+            let input = BufReader::with_capacity(alloc, PIECE, heard)?;
             let counts = JoinCounts::new(rt, Arc::try_clone(&board)?);
             let watch = JoinWatch::new(rt, &board);
             let mut ports = JoinPorts::new(rt, alloc, place, &board);
