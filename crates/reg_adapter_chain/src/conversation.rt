@@ -39,7 +39,7 @@ impl Model for AdapterConversation {
 }
 
 impl AdapterConversation {
-    ghost use Rattle.std.specs.Prelude.{◌≡◌, ◌++◌, ◌∷◌, [], false, length, None, IfErr, IfOk, OnErr, OnOk};
+    ghost use Rattle.std.specs.Prelude.{◌≡◌, ◌++◌, ◌∷◌, [], false, is_some, length, None, IfErr, IfOk, OnErr, OnOk};
     ghost use Rattle.reg_records.specs.Device.{counted_by};
     ghost use Rattle.reg_adapter.specs.declared.told.AdapterMessage.TheVariants as messages;
     ghost use Rattle.reg_adapter_chain.specs.Batches.{batch_at};
@@ -88,6 +88,13 @@ impl AdapterConversation {
         ensures { result ≡ self.now.waits }
     {
         self.waits
+    }
+
+    /// Whether a request has no answer.
+    pub fn is_open(&self) -> bool
+        ensures { result ≡ is_some self.now.request }
+    {
+        self.request.is_some()
     }
 
     /// The command that waits goes on without its answer. If its batch is kept, it is handed out then like anybody's.

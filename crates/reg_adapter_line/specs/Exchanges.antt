@@ -57,6 +57,11 @@ pub record IsTaken (s : Exchange) : Type 0 where
   pub goes_on : s.end ≡ None
   pub waited_for : (s.answer ≢ None) ⊎ (s.conversation.waits ≡ true)
 
+-- a request has no answer, and it isn't over
+pub record IsOpen (s : Exchange) : Type 0 where
+  pub goes_on : s.end ≡ None
+  pub asked : s.conversation.request ≢ None
+
 -- so many batches are due that the next message waits: nobody waits for an answer, which may stand behind
 pub record IsFull (s : Exchange) : Type 0 where
   pub nobody_waits : s.conversation.waits ≡ false

@@ -25,6 +25,10 @@ pub struct AdapterChain<R: Wait + Clock + Drop> {
     line: Arc<AdapterLine, Global>,
     /// How long an answer is waited for.
     patience: Duration,
+    /// Where it is a pen's, whose commands share their checks: how long a check is waited for where that is to be brief.
+    brief: Option<Duration>,
+    /// The number of the last request that the chain kept; 0 where there was none.
+    answered: u64,
     told: ToldList<Listed<Record>>,
 }
 
@@ -52,7 +56,45 @@ impl<R: Wait + Clock + Drop> AdapterChain<R> {
             alloc,
             line,
             patience,
+            brief: None,
+            answered: 0,
             told: ToldList::new(),
+        }
+    }
+
+    /// Nothing was told to the pen that this is the chain of, whose commands share their checks: a check is kept at once where any request was
+    /// kept that was made after the command came which is done now, as the line's arrivals have it. Where that command waits only briefly, a check
+    /// is waited for no longer than `brief`.
+    pub fn of_pen(
+        rt: R,
+        alloc: Global,
+        line: Arc<AdapterLine, Global>,
+        patience: Duration,
+        brief: Duration,
+    ) -> AdapterChain<R>
+        ensures { result ≡ [] }
+    {
+        AdapterChain {
+            rt,
+            alloc,
+            line,
+            patience,
+            brief: Some(brief),
+            answered: 0,
+            told: ToldList::new(),
+        }
+    }
+
+    /// Whether a check needn't be asked for: a request was kept that was made after the command came which is done now.
+    fn is_answered(&self) -> bool {
+        self.brief.is_some() && self.line.arrivals().is_since(self.answered)
+    }
+
+    /// How long an answer to that batch is waited for.
+    fn patience_for(&self, batch: &[Record]) -> Duration {
+        match self.brief {
+            Some(brief) if batch.is_empty() && self.line.arrivals().is_brief() => brief,
+            _ => self.patience,
         }
     }
 }
@@ -63,18 +105,25 @@ impl<R: Wait + Clock + Drop> Chain for AdapterChain<R> {
     ghost answers = { λ _ _ _ _. ⊤ };
 
     /// It waits for the answer as long as its patience says. Where none came, or it is over, it can't be known whether records stand, and a check
-    /// is declined. What is asked for while a request has no answer, for which nobody waits any more, is declined at once, and so is a record
-    /// that no line has.
+    /// is declined. A check that is asked for while a request has no answer, for which nobody waits any more, is declined at once; a batch is
+    /// where that doesn't come within a second. So is a record that no line has.
     fn append(&mut self, batch: &[Record]) -> ChainAnswer {
+        if batch.is_empty() && self.is_answered() {
+            return ChainAnswer::Kept;
+        }
         let Ok(asked) = copies_of(self.alloc, batch) else {
             return self.line.refuse(&self.rt);
         };
         let Some(bytes) = bytes_of(self.alloc, batch) else {
             return self.line.refuse(&self.rt);
         };
-        let answer = self.line.ask(&self.rt, batch, bytes, self.patience);
-        if answer == ChainAnswer::Kept && !batch.is_empty() {
-            self.told = self.told.and(&asked);
+        let patience = self.patience_for(batch);
+        let (answer, number) = self.line.ask(&self.rt, batch, bytes, patience);
+        if answer == ChainAnswer::Kept {
+            self.answered = number;
+            if !batch.is_empty() {
+                self.told = self.told.and(&asked);
+            }
         }
         answer
     }

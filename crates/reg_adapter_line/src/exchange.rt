@@ -29,7 +29,7 @@ pub(crate) struct Exchange {
 
 impl Exchange {
     ghost use Rattle.reg_adapter_line.specs.Answers.{settled};
-    ghost use Rattle.reg_adapter_line.specs.Exchanges.{IsAskedFor, IsAtOnce, IsFull, IsHeard, IsNotHeard, IsTaken, IsWaiting, begun, by_settling};
+    ghost use Rattle.reg_adapter_line.specs.Exchanges.{IsAskedFor, IsAtOnce, IsFull, IsHeard, IsNotHeard, IsOpen, IsTaken, IsWaiting, begun, by_settling};
 
     /// Nothing was said yet behind a base whose next offset is this.
     pub(crate) fn new(alloc: Global, next: u64) -> Exchange
@@ -127,6 +127,13 @@ impl Exchange {
         ensures { IsTrue result ↔ IsTaken self.now }
     {
         self.end.is_none() && (self.answer.is_some() || self.conversation.is_waited_for())
+    }
+
+    /// Whether a request has no answer, and one may still come.
+    pub(crate) fn is_open(&self) -> bool
+        ensures { IsTrue result ↔ IsOpen self.now }
+    {
+        self.end.is_none() && self.conversation.is_open()
     }
 
     /// Whether a message has to wait until batches were taken.

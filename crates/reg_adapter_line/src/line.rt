@@ -7,7 +7,7 @@ use crate::stalls::Stalls;
 use base_text::Listed;
 use reg_adapter::AdapterMessage;
 use reg_adapter_chain::TellError;
-use reg_chain::ChainAnswer;
+use reg_chain::{Arrivals, ChainAnswer};
 use reg_records::Record;
 use std::alloc::Global;
 use std::sync::atomic::{AtomicBool, Ordering};
@@ -17,6 +17,9 @@ use std::time::{Clock, Duration};
 
 /// A message that memory is refused for is told again so much later, in milliseconds.
 pub(crate) const AGAIN: u64 = 20;
+
+/// How long a batch waits for the answer to a request that nobody waits for any more, in milliseconds.
+const OPEN_WITHIN: u64 = 1_000;
 
 /// What a process and its adapter told each other, for all threads of the process. No thread holds its lock while it waits.
 #[derive(Drop)]
@@ -29,6 +32,7 @@ pub struct AdapterLine {
     /// A batch was handed out, somebody waits for an answer, or it is over.
     taken: Condvar,
     grown: Parker,
+    arrivals: Arrivals,
     pub(crate) stalls: Stalls,
     is_ready: AtomicBool,
     has_due: AtomicBool,
@@ -44,6 +48,7 @@ impl AdapterLine {
             asked: Condvar::new(),
             taken: Condvar::new(),
             grown: Parker::new(),
+            arrivals: Arrivals::new(),
             stalls: Stalls::new(),
             is_ready: AtomicBool::new(false),
             has_due: AtomicBool::new(false),
@@ -54,6 +59,11 @@ impl AdapterLine {
     /// It is unparked after each message and at the end. One thread may park on it.
     pub fn grown(&self) -> &Parker {
         &self.grown
+    }
+
+    /// Counts the requests that are made on it.
+    pub fn arrivals(&self) -> &Arrivals {
+        &self.arrivals
     }
 
     /// Whether `ready` was read: all was told then that had been acknowledged before the adapter began.
@@ -99,22 +109,30 @@ impl AdapterLine {
         self.exchange.lock(rt).at_once()
     }
 
-    /// Asks for a batch by these bytes, and waits for the answer, as long as `patience` says. Where somebody else waits for an answer it is asked
-    /// for after that one, but for this too it waits no longer.
+    /// Asks for a batch by these bytes, and waits for the answer, as long as `patience` says; gives the number of the request, too, or 0 where it
+    /// wasn't made. Where somebody else waits for an answer it is asked for after that one, but for this too it waits no longer. Where nobody waits
+    /// any more for an answer that is still missing, a batch is asked for once that came within a second, and a check isn't.
     pub(crate) fn ask<R: Wait + Clock>(
         &self,
         rt: &R,
         batch: &[Record],
         bytes: Vec<u8>,
         patience: Duration,
-    ) -> ChainAnswer {
+    ) -> (ChainAnswer, u64) {
         let exchange = self.exchange.lock(rt);
         let (mut exchange, _result) = self
             .heard
             .wait_timeout_while(rt, exchange, patience, |held| held.is_taken());
-        if let Some(answer) = exchange.ask(batch, bytes) {
-            return answer;
+        if !batch.is_empty() {
+            let within = patience.min(Duration::from_millis(OPEN_WITHIN));
+            (exchange, _) = self
+                .heard
+                .wait_timeout_while(rt, exchange, within, |held| held.is_open());
         }
+        if let Some(answer) = exchange.ask(batch, bytes) {
+            return (answer, 0);
+        }
+        let number = self.arrivals.ask();
         self.asked.notify_one();
         self.taken.notify_one();
         let (mut exchange, _result) = self
@@ -123,7 +141,7 @@ impl AdapterLine {
         let answer = exchange.settle(batch);
         drop(exchange);
         self.heard.notify_all();
-        answer
+        (answer, number)
     }
 
     /// The next batch that is due, if one is.

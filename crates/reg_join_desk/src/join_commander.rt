@@ -9,7 +9,7 @@ use crate::joined_pen::JoinedPen;
 use crate::log_waits::LogWaits;
 use crate::outcomes::{declined_reply, outcome_reply};
 use crate::shared_check::SharedCheck;
-use reg_chain::Chain;
+use reg_chain::{Arrivals, Chain};
 use reg_desk::{Commander, Ruling, View, submit_ruled};
 use reg_feed::{Copies, FeedName, Seen};
 use reg_join::{JoinOutcome, JoinSubmitted};
@@ -79,12 +79,13 @@ impl<
         check: &'a SharedCheck,
         waits: &'a LogWaits,
         grown: &'a Parker,
+        arrivals: &'a Arrivals,
         pass: Pass<N>,
         judge: Judge,
     ) -> JoinCommander<'a, N, S, C, R> {
         JoinCommander {
             rt,
-            pen: JoinHandle::new(rt, alloc, pen, pass),
+            pen: JoinHandle::new(rt, alloc, pen, pass, arrivals),
             check,
             waits,
             grown,
@@ -113,7 +114,7 @@ impl<
     ) -> Reply
         ensures { JoinOrders C.told C.answers (base_of N.first) view.old command.now result view.new }
     {
-        self.pen.begin();
+        self.pen.begin(command);
         let ruling = Ruling::of(view, &mut self.judge, command);
         let since = Some(view.seen().again());
         let JoinSubmitted { outcome, seen } = submit_ruled(

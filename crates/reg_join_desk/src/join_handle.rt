@@ -7,7 +7,7 @@ ghost use Rattle.reg_join_desk.specs.JoinedDesk.{IsOrdered};
 
 use crate::joined_pen::JoinedPen;
 use crate::patience::TimedPatience;
-use reg_chain::Chain;
+use reg_chain::{Arrivals, Chain};
 use reg_desk::{Case, PenAccess, Ruling, overtaken};
 use reg_feed::{Copies, FeedName, Seen};
 use reg_join::JoinSubmitted;
@@ -35,7 +35,11 @@ pub(crate) struct JoinHandle<
     alloc: Global,
     pen: &'a Mutex<JoinedPen<N, S, C, R>>,
     pass: Pass<N>,
+    arrivals: &'a Arrivals,
     patience: TimedPatience<'a, R>,
+    /// How many requests had been made of the log when the command came, and whether it waits for a check only briefly.
+    came: u64,
+    is_brief: bool,
 }
 
 impl<
@@ -63,19 +67,26 @@ impl<
         alloc: Global,
         pen: &'a Mutex<JoinedPen<N, S, C, R>>,
         pass: Pass<N>,
+        arrivals: &'a Arrivals,
     ) -> JoinHandle<'a, N, S, C, R> {
         JoinHandle {
             rt,
             alloc,
             pen,
             pass,
+            arrivals,
             patience: TimedPatience::new(rt),
+            came: 0,
+            is_brief: false,
         }
     }
 
-    /// Starts the patience of the next command.
-    pub(crate) fn begin(&mut self) {
+    /// Notes that the next command came now, and starts its patience. A registration waits for a
+    /// check only briefly: the id of a schema that is live may be told without.
+    pub(crate) fn begin(&mut self, command: &Command) {
         self.patience = TimedPatience::new(self.rt);
+        self.came = self.arrivals.now();
+        self.is_brief = matches!(command, Command::Register { .. });
     }
 }
 
@@ -101,6 +112,7 @@ impl<
         judged: Option<&Judged>,
     ) -> JoinSubmitted<N> {
         let mut pen = self.pen.lock(self.rt);
+        self.arrivals.serve(self.came, self.is_brief);
         submit_at(
             &mut pen,
             self.alloc,
@@ -123,6 +135,7 @@ impl<
         if let Some(case) = overtaken(case, pen.registry()) {
             return Err(case);
         }
+        self.arrivals.serve(self.came, self.is_brief);
         Ok(submit_at(
             &mut pen,
             self.alloc,

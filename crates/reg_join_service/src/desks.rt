@@ -86,6 +86,7 @@ fn make_desk<
         following.check,
         waits,
         following.line.grown(),
+        following.line.arrivals(),
         pass,
         judge,
     );

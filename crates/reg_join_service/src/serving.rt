@@ -38,6 +38,10 @@ use std::time::{Clock, Duration};
 /// How long a command waits for an answer of the adapter, in seconds.
 const ANSWER_WITHIN: u64 = 30;
 
+/// How long a registration of what is live waits for an answer to a check, in milliseconds. Without
+/// one it is told the id that it has here.
+const LIVE_WITHIN: u64 = 300;
+
 /// How long a check for lookups waits for an answer, in seconds. A command may have to wait for the
 /// check.
 const CHECKED_WITHIN: u64 = 1;
@@ -155,7 +159,8 @@ fn ends_behind<R: Wait + Clock + Copy + Drop>(
 {
     let line = Arc::new(alloc, AdapterLine::new(alloc, next))?;
     let patience = Duration::from_secs(ANSWER_WITHIN);
-    let chain = AdapterChain::new(rt, alloc, Arc::try_clone(&line)?, patience);
+    let brief = Duration::from_millis(LIVE_WITHIN);
+    let chain = AdapterChain::of_pen(rt, alloc, Arc::try_clone(&line)?, patience, brief);
     let patience = Duration::from_secs(CHECKED_WITHIN);
     let rest = AdapterChain::new(rt, alloc, Arc::try_clone(&line)?, patience);
     Ok(Ends { line, chain, rest })

@@ -8,6 +8,7 @@ use crate::opening::Common;
 use crate::runs::len_of;
 use crate::turns::{Turn, comes_out};
 use reg_feed::{Copies, FeedName, Unnamed};
+use reg_chain::Arrivals;
 use reg_join::JoinKeep;
 use reg_join_desk::{FeedDesk, JoinCommander, JoinedPen, LogWaits, SharedCheck, View};
 use reg_judge::Judge;
@@ -91,8 +92,11 @@ fn at_desk<N: FeedName<Item, Shared>, S: Copies<Item, Shared, N>, R: Wait + Cloc
 ) -> Result<Option<usize>, Fail> {
     let (rt, alloc) = (&common.rt, common.alloc);
     let (check, waits, grown) = (SharedCheck::new(), LogWaits::new(turn.waits), Parker::new());
+    let arrivals = Arrivals::new();
     let judge = Judge::new(alloc, keys, 16, 64)?;
-    let commander = JoinCommander::new(rt, alloc, pen, &check, &waits, &grown, pass, judge);
+    let commander = JoinCommander::new(
+        rt, alloc, pen, &check, &waits, &grown, &arrivals, pass, judge,
+    );
     let mut desk = FeedDesk::new(commander, view);
     for (place, step) in turn.steps.iter().enumerate() {
         if !comes_out(alloc, &mut desk, step)? {
