@@ -106,7 +106,7 @@ impl<R: Wait + Clock + Drop> Chain for AdapterChain<R> {
 
     /// It waits for the answer as long as its patience says. Where none came, or it is over, it can't be known whether records stand, and a check
     /// is declined. A check that is asked for while a request has no answer, for which nobody waits any more, is declined at once; a batch is
-    /// where that doesn't come within a second. So is a record that no line has.
+    /// where that doesn't come within 300 ms. So is a record that no line has.
     fn append(&mut self, batch: &[Record]) -> ChainAnswer {
         if batch.is_empty() && self.is_answered() {
             return ChainAnswer::Kept;

@@ -19,7 +19,7 @@ use std::time::{Clock, Duration};
 pub(crate) const AGAIN: u64 = 20;
 
 /// How long a batch waits for the answer to a request that nobody waits for any more, in milliseconds.
-const OPEN_WITHIN: u64 = 1_000;
+const OPEN_WITHIN: u64 = 300;
 
 /// What a process and its adapter told each other, for all threads of the process. No thread holds its lock while it waits.
 #[derive(Drop)]
@@ -111,7 +111,7 @@ impl AdapterLine {
 
     /// Asks for a batch by these bytes, and waits for the answer, as long as `patience` says; gives the number of the request, too, or 0 where it
     /// wasn't made. Where somebody else waits for an answer it is asked for after that one, but for this too it waits no longer. Where nobody waits
-    /// any more for an answer that is still missing, a batch is asked for once that came within a second, and a check isn't.
+    /// any more for an answer that is still missing, a batch is asked for once that came within 300 ms, and a check isn't.
     pub(crate) fn ask<R: Wait + Clock>(
         &self,
         rt: &R,
