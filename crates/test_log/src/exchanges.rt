@@ -231,6 +231,122 @@ fn a_batch_behind_a_check_without_an_answer_is_declined(rt: HostRuntime) -> Resu
     Ok(())
 }
 
+/// The chain of a pen on a line, whose checks are waited for that long.
+fn chain_of_pen<R: Wait + Clock + Drop>(
+    rt: R,
+    alloc: Global,
+    line: &Arc<AdapterLine, Global>,
+    brief: u64,
+) -> Result<AdapterChain<R>, Fail> {
+    let (patience, brief) = (Duration::from_millis(LONG), Duration::from_millis(brief));
+    Ok(AdapterChain::of_pen(rt, alloc, Arc::try_clone(line)?, patience, brief))
+}
+
+#[test]
+fn one_check_serves_who_came_before_it(rt: HostRuntime) -> Result<(), Fail> {
+    let alloc = rt.alloc();
+    let (line, _chain) = begin(rt, alloc, LONG)?;
+    let mut chain = chain_of_pen(rt, alloc, &line, LONG)?;
+    let came = line.arrivals().now();
+    line.arrivals().serve(came, false);
+    let (answer, _bytes) = exchange(&rt, alloc, &mut chain, &line, &[], "kept\n");
+    assert_eq!(rt; answer, ChainAnswer::Kept);
+    line.arrivals().serve(came, false);
+    assert_eq!(rt;
+        chain.append(&[]),
+        ChainAnswer::Kept,
+        "nobody answers: it isn't asked"
+    );
+    line.arrivals().serve(line.arrivals().now(), false);
+    let (answer, bytes) = exchange(&rt, alloc, &mut chain, &line, &[], "declined\n");
+    assert_eq!(rt; answer, ChainAnswer::Declined, "it came behind the check");
+    assert!(rt; bytes.ok_or("a request")?.as_slice() == b"\n".as_slice());
+    Ok(())
+}
+
+#[test]
+fn a_batch_that_is_kept_serves_as_a_check(rt: HostRuntime) -> Result<(), Fail> {
+    let alloc = rt.alloc();
+    let (line, mut other) = begin(rt, alloc, LONG)?;
+    let mut chain = chain_of_pen(rt, alloc, &line, LONG)?;
+    let came = line.arrivals().now();
+    line.arrivals().serve(came, false);
+    let (answer, _bytes) = exchange(&rt, alloc, &mut chain, &line, &[noop(5)], "kept\n");
+    assert_eq!(rt; answer, ChainAnswer::Kept);
+    line.arrivals().serve(came, false);
+    assert_eq!(rt; chain.append(&[]), ChainAnswer::Kept);
+    let (answer, _bytes) = exchange(&rt, alloc, &mut other, &line, &[], "declined\n");
+    assert_eq!(rt;
+        answer,
+        ChainAnswer::Declined,
+        "a chain that is no pen's asks each time"
+    );
+    Ok(())
+}
+
+#[test]
+fn a_brief_check_is_given_up(rt: HostRuntime) -> Result<(), Fail> {
+    let alloc = rt.alloc();
+    let (line, _chain) = begin(rt, alloc, LONG)?;
+    let mut chain = chain_of_pen(rt, alloc, &line, SHORT)?;
+    line.arrivals().serve(line.arrivals().now(), true);
+    assert_eq!(rt; chain.append(&[]), ChainAnswer::Declined, "no answer comes");
+    assert_eq!(rt;
+        chain.append(&[]),
+        ChainAnswer::Declined,
+        "nor is another one asked"
+    );
+    assert_eq!(rt; line.arrivals().now(), 1);
+    tell(&rt, alloc, &line, "kept\n")?;
+    line.arrivals().serve(line.arrivals().now(), false);
+    let (answer, _bytes) = exchange(&rt, alloc, &mut chain, &line, &[], "kept\n");
+    assert_eq!(rt; answer, ChainAnswer::Kept);
+    Ok(())
+}
+
+/// Asks for a batch until it isn't declined, 100 times at most: on a busy machine the answer before it may come too late.
+fn append_in_time<R: Wait + Clock + Drop>(
+    chain: &mut AdapterChain<R>,
+    batch: &[Record],
+) -> ChainAnswer {
+    for _ in 0..99 {
+        let answer = chain.append(batch);
+        if answer != ChainAnswer::Declined {
+            return answer;
+        }
+    }
+    chain.append(batch)
+}
+
+#[test]
+fn a_batch_waits_for_an_answer_that_is_late(rt: HostRuntime) -> Result<(), Fail> {
+    let alloc = rt.alloc();
+    let (line, mut chain) = begin(rt, alloc, LONG)?;
+    let mut other = AdapterChain::new(
+        rt,
+        alloc,
+        Arc::try_clone(&line)?,
+        Duration::from_millis(SHORT),
+    );
+    assert_eq!(rt; other.append(&[]), ChainAnswer::Declined, "no answer comes");
+    let shared: &AdapterLine = &line;
+    let batch = [noop(5)];
+    let (kept, told) = thread::join(
+        &rt,
+        || append_in_time(&mut chain, &batch),
+        || {
+            let _check = shared.wait_for_request(&rt);
+            thread::sleep(&rt, Duration::from_millis(SHORT));
+            tell(&rt, alloc, shared, "kept\n")?;
+            let _batch = shared.wait_for_request(&rt);
+            tell(&rt, alloc, shared, "kept\n")
+        },
+    );
+    assert!(rt; told.is_ok());
+    assert_eq!(rt; kept, ChainAnswer::Kept);
+    Ok(())
+}
+
 #[test]
 fn the_input_ends_while_a_command_waits(rt: HostRuntime) -> Result<(), Fail> {
     let alloc = rt.alloc();
