@@ -1,11 +1,14 @@
 -- Pens over a log that others write too, as processes that take part in one chain.
-use Rattle.std.specs.Prelude.{◌≡◌, ◌≤◌, length, List, [], ◌++◌, Bool, false}
+use Rattle.std.specs.Prelude.{◌≡◌, ◌≤◌, ◌↔◌, ℕ, length, List, [], ◌++◌, Bool, false}
 use mathlib.Core.List.{IsPrefix}
 use Rattle.reg_records.specs.declared.record.Record.{Record}
 use Rattle.reg_floored.specs.Compaction.{IsCompactionOf}
 use Rattle.reg_topic.specs.Topic.{IsAdopted}
 use Rattle.reg_topic.specs.declared.published.Item.{Item}
 use Rattle.reg_topic.specs.declared.topic.Topic.{Topic}
+use Rattle.reg_leader.specs.Step.{IsStep}
+use Rattle.reg_leader.specs.declared.command.Command.{Command}
+use Rattle.reg_leader.specs.declared.reply.Reply.{Reply}
 use Rattle.reg_lookup.specs.Answers.{IsAnswer}
 use Rattle.reg_lookup.specs.declared.answered.Answer.{Answer}
 use Rattle.reg_lookup.specs.declared.query.Query.{Query}
@@ -61,6 +64,27 @@ module _ {C D : Type 0} (told : C → List (List Record)) (tells : D → List (L
       → IsAnswer (registry (process_of early base l.published)) query one
       → IsAnswer (registry (process_of others other_base m.published)) query other
       → (closes : Bool) → answer_text closes one ≡ answer_text closes other
+
+  -- two desks, each of which has seen a beginning of its pen's list: where these have as many batches of the log, the desks give each answer
+  -- by the same bytes
+  abbrev pub DesksGiveSameBytes : Type 0
+  DesksGiveSameBytes = (log early others : List (List Record)) (base other_base : Topic) (l : PenState (JoinKeep C)) (m : PenState (JoinKeep D))
+      (seen other_seen : List Item) → Joins told log early base l → Joins tells log others other_base m
+      → IsPrefix seen l.published → IsPrefix other_seen m.published
+      → length (taken_by (process_of early base seen)) ≡ length (taken_by (process_of others other_base other_seen))
+      → (query : Query) (one other : Answer)
+      → IsAnswer (registry (process_of early base seen)) query one
+      → IsAnswer (registry (process_of others other_base other_seen)) query other
+      → (closes : Bool) → answer_text closes one ≡ answer_text closes other
+
+  -- and they decide each command alike, at each next offset: reply, a refusal too, and batch are the same
+  abbrev pub DesksStepAlike : Type 0
+  DesksStepAlike = (log early others : List (List Record)) (base other_base : Topic) (l : PenState (JoinKeep C)) (m : PenState (JoinKeep D))
+      (seen other_seen : List Item) → Joins told log early base l → Joins tells log others other_base m
+      → IsPrefix seen l.published → IsPrefix other_seen m.published
+      → length (taken_by (process_of early base seen)) ≡ length (taken_by (process_of others other_base other_seen))
+      → (n : ℕ) (c : Command) (reply : Reply) (batch : List Record)
+      → IsStep (registry (process_of early base seen)) n c reply batch ↔ IsStep (registry (process_of others other_base other_seen)) n c reply batch
 
   -- no id names two schemas with two of them, at whatever moments, where neither's base stands for more batches than the other took
   abbrev pub NoIdNamesTwoWithPens : Type 0

@@ -1,9 +1,11 @@
 // What pens over one chain agree on. The laws cost nothing at run time: a function that needs one
 // calls it.
-ghost use Rattle.reg_joined.specs.Pens.{LevelPensTookAll, NewPensJoin, NoIdNamesTwoWithPens, PensGiveSameBytes, PensTakePart, ReadersTakePart};
+ghost use Rattle.reg_joined.specs.Pens.{DesksGiveSameBytes, DesksStepAlike, LevelPensTookAll, NewPensJoin, NoIdNamesTwoWithPens, PensGiveSameBytes, PensTakePart, ReadersTakePart};
 
 use reg_chain::Chain;
-use reg_processes::{fronts_take_part, no_id_names_two_schemas, same_logs_give_same_bytes};
+use reg_processes::{
+    fronts_take_part, no_id_names_two_schemas, same_logs_give_alike, same_logs_give_same_bytes,
+};
 use reg_topic::lawful_items_follow;
 
 /// States that a pen takes part in the chain: what it has published and what is pending, and what
@@ -30,4 +32,18 @@ pub fn pens_say_the_same<C: Chain, D: Chain>()
     pens_take_part::<D>();
     no_id_names_two_schemas();
     same_logs_give_same_bytes();
+}
+
+/// States the theorem of many processes for desks, each of which has seen a prefix of its pen's
+/// list: if two prefixes have as many batches of the log, the desks answer a query by the same
+/// bytes, and decide a command alike, refusals too.
+pub fn desks_say_the_same<C: Chain, D: Chain>()
+    ensures bytes { DesksGiveSameBytes C.told D.told }
+    ensures steps { DesksStepAlike C.told D.told }
+{
+    pens_take_part::<C>();
+    pens_take_part::<D>();
+    fronts_take_part();
+    same_logs_give_same_bytes();
+    same_logs_give_alike();
 }

@@ -4,10 +4,11 @@
 //! it. This crate ties each such pen to the participants of `reg_processes`, which says what
 //! participants agree on.
 //!
-//! It has no types and nothing runs here: only two laws. [`pens_take_part`] says that a pen takes
+//! It has no types and nothing runs here: only three laws. [`pens_take_part`] says that a pen takes
 //! part in the chain, with what is pending and with what its readers see. [`pens_say_the_same`] is
 //! the theorem: readers of two pens that have published as many batches answer a query by the same
-//! bytes, and no id names two schemas with any two of them.
+//! bytes, and no id names two schemas with any two of them. [`desks_say_the_same`] takes the theorem
+//! to desks, each of which has seen a prefix of what its pen has published.
 //!
 //! It doesn't say that all pens have published as many batches: one may be behind.
 //!
@@ -16,4 +17,4 @@
 
 mod laws;
 
-pub use laws::{pens_say_the_same, pens_take_part};
+pub use laws::{desks_say_the_same, pens_say_the_same, pens_take_part};
