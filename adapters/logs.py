@@ -4,8 +4,9 @@ import json
 
 from faults import Broken
 
-# next: the offset behind it; text: its lines, each with its LF, without the empty line at its end.
-Log = collections.namedtuple("Log", "next text")
+# next: the offset behind it; records: how many lines it has, but for its floor's; text: its lines, each with its LF, without the empty
+# line at its end.
+Log = collections.namedtuple("Log", "next records text")
 
 LONGEST = 2097152
 MOST_LINES = 1000000
@@ -53,16 +54,37 @@ def is_utf8(text):
     return True
 
 
+def end_line(records, following):
+    """What stands behind a whole log: an empty line, and one that says where the log ends."""
+    return b"\nend %d %d\n" % (records, following)
+
+
+def read_whole(text):
+    """The log that these bytes are, where a line behind it says that nothing of it is missing."""
+    lines, mark, said = text.rpartition(b"\nend ")
+    if not mark or lines[-1:] not in (b"", b"\n"):
+        raise Broken("no line behind the log says where it ends: write it with registrylog compact --whole, registrylog base --whole or "
+                     "dump --whole")
+    log = read_log(lines)
+    right = end_line(log.records, log.next)
+    if mark + said != right:
+        raise Broken("the line behind the log isn't `%s`: a part is missing, or was added" % right.decode().strip())
+    return log
+
+
+def has_floor(text):
+    """Whether the first line of a log says its floor."""
+    return text.startswith(b"floor\t")
+
+
 def read_log(text):
-    """The log that these bytes are. What stands behind an empty line is refused, and so is a log that owes a mark of ids, since no process
-    would begin with it."""
+    """The log that these lines are. An empty line is refused, and so is a log that owes a mark of ids, since no process would begin with
+    it."""
     if not is_utf8(text):
         raise Broken("the log isn't UTF-8")
     lines = text.split(b"\n")
     if lines.pop() != b"":
         raise Broken("the log's last line is cut")
-    while lines and lines[-1] == b"":
-        lines.pop()
     if len(lines) > MOST_LINES:
         raise Broken("the log has more than %d lines" % MOST_LINES)
     behind = 0
@@ -71,7 +93,7 @@ def read_log(text):
     if owes_mark(lines):
         raise Broken("the log owes a mark of ids: start and stop `registrylog keep` over it for an init; a rebase has to end where none is "
                      "due (README.md, A smaller base)")
-    return Log(behind, b"".join(line + b"\n" for line in lines))
+    return Log(behind, len(lines) - has_floor(text), text)
 
 
 def end_of(line, number):

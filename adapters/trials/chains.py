@@ -2,7 +2,7 @@
 import threading
 import time
 
-from seats import expect, note
+from seats import expect, note, whole
 from stores import Gate
 from trial import case, rules_command
 
@@ -333,16 +333,26 @@ def hints(trial, kind):
 
 @case(*STORES)
 def words_and_statuses(trial, kind):
-    """A second init, bases that are none, other rules, no log, and a process that isn't there."""
-    log = trial.new_log(kind, note(0, "x") + b"\n\n")
+    """A second init, bases that are none, empty or cut, other rules, no log, and a process that isn't there."""
+    log = trial.new_log(kind, note(0, "x"))
     store, command = trial.store(kind), rules_command(1)
-    expect("there is a log" in log.run("init", command=command, status=2)[1])
+    expect("there is a log" in log.run("init", "--empty", command=command, status=2)[1])
     version = (b'0\t{"keytype":"SCHEMA","subject":"s","version":1,"magic":1}\t'
                b'{"subject":"s","version":1,"id":5,"schema":"\\"int\\"","deleted":false}\n')
     mark = b'1\t{"keytype":"ID_MARK","magic":0}\t{"id":4}\n'
-    for text, said in ((b"0\tx\n", "line 1 isn't a line"), (b"0\ta\tb", "is cut"), (b"00\ta\tb\n", "line 1"),
-                       (b"0\ta\tb\n\n1\ta\tb\n", "line 2"), (version, "owes a mark"), (version + mark, "owes a mark")):
-        expect(said in log.run("init", text=text, command=command, status=2)[1], text)
+    for text, said in ((b"0\tx\n", "line 1 isn't a line"), (b"00\ta\tb\n", "line 1"), (b"0\ta\tb\n\n1\ta\tb\n", "line 2"),
+                       (version, "owes a mark"), (version + mark, "owes a mark")):
+        expect(said in log.run("init", text=text + b"\nend 1 1\n", command=command, status=2)[1], text)
+    text, other = whole(note(0, "x") + note(1, "y")), whole(note(0, "z"))
+    for cut, said in ((b"", "no line behind"), (note(0, "x"), "no line behind"), (note(0, "x") + b"\n", "no line behind"),
+                      (text[:-1], "a part is missing"), (text[len(note(0, "x")):], "a part is missing"), (text + b"\n", "a part is missing"),
+                      (text.replace(b"end 2 2", b"end 2 3"), "a part is missing"), (b"\nend 0 0\n", "is empty"),
+                      (note(0, "x") + other, "a part is missing"), (other + text, "line 2"), (text.replace(b"\n\n", b"\n"), "no line behind")):
+        expect(said in log.run("init", text=cut, command=command, status=2)[1], cut)
+        expect(kind == "kafka" or said in log.run("rebase", text=cut, status=2)[1], cut)
+    expect("isn't empty" in log.run("init", "--empty", text=text, command=command, status=2)[1])
+    log.run("dump", "--empty", status=2)
+    log.run("init", "--whole", text=text, command=command, status=2)
     if kind == "postgres":
         store.sql("CREATE SCHEMA %sempty" % log.name)
     if kind == "kafka":
@@ -358,3 +368,4 @@ def words_and_statuses(trial, kind):
     if kind == "kafka":
         expect("only grows" in log.run("rebase", status=2)[1] and "only grows" in log.run("trim", status=2)[1])
     expect(log.run("dump")[0] == note(0, "x"), "the log isn't what was put in")
+    expect(log.run("dump", "--whole")[0] == whole(note(0, "x")), "another end is said than was put in")

@@ -59,7 +59,7 @@ class Trial(cluster.Trial):
     def begin(self):
         self.store = Store(self.folder, self.ends)
         command = [self.program, "join"]
-        subprocess.run([*self.store.words(), "init", "--", *command], stdin=subprocess.DEVNULL, check=True)
+        subprocess.run([*self.store.words(), "init", "--empty", "--", *command], stdin=subprocess.DEVNULL, check=True)
         for number in range(PROCESSES):
             place = ("127.0.0.1", free_port())
             words = [*self.store.words(), "serve", "--", *command, "--listen", "%s:%d" % place]

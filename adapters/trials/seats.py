@@ -24,6 +24,11 @@ def note(offset, text):
     return b"%d\t{\"keytype\":\"NOOP\",\"magic\":0}\t\"%s\"\n" % (offset, text.encode())
 
 
+def whole(text):
+    """A log with the line that says where it ends."""
+    return text + b"\nend %d %d\n" % (text.count(b"\n"), max(int(line.split(b"\t")[0]) + 1 for line in text.splitlines()))
+
+
 class Seat:
     """An adapter that serves the test. `next` is the offset behind what was given, `log` are the lines of that, and `ends` how many lines
     there were behind the base, and behind each batch."""

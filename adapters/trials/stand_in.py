@@ -1,7 +1,7 @@
 """Stands in for `registrylog join`: it reads and asks as PROTOCOL.md says, decides by registry.py, and listens.
 
     stand_in.py --port PORT             serves; with --rules behind it, it prints the number of its rules
-    stand_in.py --compact N             a filter: the last records of a log, behind a floor of N
+    stand_in.py --compact N --whole     a filter: the last records of a log, behind a floor of N, and the line that says where it ends
 
 Each answer has a header Place: the offset behind the log from which it was given."""
 import http.server
@@ -167,7 +167,7 @@ def compact(floor):
             last.pop(key, None)
             if value != "null":
                 last[key] = "%s\t%s\t%s\n" % (offset, key, value)
-    sys.stdout.write("floor\t%d\n%s" % (floor, "".join(last.values())))
+    sys.stdout.write("floor\t%d\n%s\nend %d %d\n" % (floor, "".join(last.values()), len(last), floor))
 
 
 def main():

@@ -110,7 +110,7 @@ def rights_and_tls(trial, kind):
             text.write(password + "\n")
         return ["join-etcd", "--endpoints", store.urls(), "--prefix", prefix, "--user", name, "--password-file", file, *more]
     log = Log(trial, words("writer"), "/registry")
-    log.run("init", command=rules_command(1))
+    log.run("init", "--empty", command=rules_command(1))
     writer, reader = log.seat().ready(), log.seat(words("reader")).ready()
     expect(writer.append() == "kept", writer.said())
     reader.wait_until(lambda: reader.next == 1)
@@ -160,7 +160,7 @@ def rights_and_tls(trial, kind):
     def words(user, root=authority):
         return store.words("registry", user=user, more="sslmode=verify-full sslrootcert=%s.crt" % root)
     log = Log(trial, words("admin"), "registry")
-    log.run("init", command=rules_command(1))
+    log.run("init", "--empty", command=rules_command(1))
     store.sql("GRANT USAGE ON SCHEMA registry TO server, reader", "GRANT SELECT ON ALL TABLES IN SCHEMA registry TO server, reader",
               "GRANT INSERT ON registry.registry_batch TO server")
     server, reader = log.seat(words("server")).ready(), log.seat(words("reader")).ready()
@@ -200,7 +200,7 @@ def second_server(trial, kind):
     dsn = ("host=127.0.0.1,127.0.0.1 port=%d,%d dbname=postgres user=admin options=-csearch_path=registry target_session_attrs=read-write"
            % (first.port, second.port))
     log = Log(trial, ["join-postgres", "--timeout", "2", "--dsn", dsn], "registry")
-    log.run("init", command=rules_command(1))
+    log.run("init", "--empty", command=rules_command(1))
     seat, other = log.seats(2, patience=3)
     expect(seat.append() == "kept", seat.said())
     other.wait_until(lambda: other.next == seat.next)

@@ -6,7 +6,7 @@ import subprocess
 import sys
 import tempfile
 
-from seats import HERE, Seat, agree, expect
+from seats import HERE, Seat, agree, expect, whole
 from stores import Brokers, Etcd, Postgres, wait_for
 
 CASES = {}
@@ -66,7 +66,7 @@ class Trial:
         if kind == "kafka":
             store.new_topic(name)
         log = Log(self, store.words(name), name)
-        log.run("init", text=text, command=rules_command(1))
+        log.run("init", *([] if text else ["--empty"]), text=text and whole(text), command=rules_command(1))
         return log
 
 

@@ -297,7 +297,7 @@ class Trial:
         self.store = (EtcdStore if self.kind == "etcd" else PostgresStore)(self.folder, self.ends)
         print("%s, for %d s; machines with a network of their own: %s" % (self.kind, self.seconds, self.store.net.is_real), flush=True)
         command = [self.program, "join"]
-        done = subprocess.run([*self.store.words(), "--patience", "30", "init", "--", *command], input=b"", stderr=subprocess.PIPE, check=False)
+        done = subprocess.run([*self.store.words(), "--patience", "30", "init", "--empty", "--", *command], input=b"", stderr=subprocess.PIPE, check=False)
         expect(done.returncode == 0, "init:", done.stderr.decode())
         for number in range(PROCESSES):
             machine = self.store.net.add("p%d" % number)

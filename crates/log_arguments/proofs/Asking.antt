@@ -26,8 +26,8 @@ keep_alone rows none (Join listen nodes workers metrics) asked = differ _ _ refl
 keep_alone rows none Rules asked = differ _ _ refl asked.0
 keep_alone rows none (Tail file from) asked = differ _ _ refl asked.0
 keep_alone rows none (Check file quiet) asked = differ _ _ refl asked.0
-keep_alone rows none (Compact file to output quiet) asked = differ _ _ refl asked.0
-keep_alone rows none (Base file below quiet) asked = differ _ _ refl asked.0
+keep_alone rows none (Compact file to output quiet whole) asked = differ _ _ refl asked.0
+keep_alone rows none (Base file below quiet whole) asked = differ _ _ refl asked.0
 
 pub follow_alone : (rows : List Row)
     → ((listen : SocketAddr) (nodes workers : ℕ) (metrics : Option SocketAddr) → IsPlaceIn 1 rows listen nodes workers
@@ -39,8 +39,8 @@ follow_alone rows none (Join listen nodes workers metrics) asked = differ _ _ re
 follow_alone rows none Rules asked = differ _ _ refl asked.0
 follow_alone rows none (Tail file from) asked = differ _ _ refl asked.0
 follow_alone rows none (Check file quiet) asked = differ _ _ refl asked.0
-follow_alone rows none (Compact file to output quiet) asked = differ _ _ refl asked.0
-follow_alone rows none (Base file below quiet) asked = differ _ _ refl asked.0
+follow_alone rows none (Compact file to output quiet whole) asked = differ _ _ refl asked.0
+follow_alone rows none (Base file below quiet whole) asked = differ _ _ refl asked.0
 
 pub join_alone : (rows : List Row) → has_flag (codes "rules") rows ≡ false
     → ((listen : SocketAddr) (nodes workers : ℕ) (metrics : Option SocketAddr) → IsPlaceIn 2 rows listen nodes workers
@@ -52,8 +52,8 @@ join_alone rows serves none (Join listen nodes workers metrics) asked = none lis
 join_alone rows serves none Rules asked = true≢false (sym asked.1 ∙ serves)
 join_alone rows serves none (Tail file from) asked = differ _ _ refl asked.0
 join_alone rows serves none (Check file quiet) asked = differ _ _ refl asked.0
-join_alone rows serves none (Compact file to output quiet) asked = differ _ _ refl asked.0
-join_alone rows serves none (Base file below quiet) asked = differ _ _ refl asked.0
+join_alone rows serves none (Compact file to output quiet whole) asked = differ _ _ refl asked.0
+join_alone rows serves none (Base file below quiet whole) asked = differ _ _ refl asked.0
 
 -- a parse of the program's command line finds what its definition says
 pub rows_are : (line : Command) (words : List Text) (m : ArgMatches) → HasLine program_line line → HasMatchesOf (app_of line) words m
@@ -93,5 +93,5 @@ within_limits (Some found) (Join listen nodes workers metrics) asks = tt
 within_limits (Some found) Rules asks = tt
 within_limits (Some found) (Tail file from) asks = offset_within _ from asks.2
 within_limits (Some found) (Check file quiet) asks = tt
-within_limits (Some found) (Compact file to output quiet) asks = offset_within _ to asks.2
-within_limits (Some found) (Base file below quiet) asks = offset_within _ (Some below) asks.2
+within_limits (Some found) (Compact file to output quiet whole) asks = offset_within _ to asks.2
+within_limits (Some found) (Base file below quiet whole) asks = offset_within _ (Some below) asks.2

@@ -22,12 +22,13 @@ IsAskedBy found (Tail file from) = (found.0 ≡ codes "tail") × (first_of (code
     × IsOffsetOf (first_of (codes "from") found.1) from
 IsAskedBy found (Check file quiet) = (found.0 ≡ codes "check") × (option_map (λ path. path.now) file ≡ path_in (codes "file") found.1)
     × (quiet ≡ has_flag (codes "quiet") found.1)
-IsAskedBy found (Compact file to output quiet) = (found.0 ≡ codes "compact")
+IsAskedBy found (Compact file to output quiet whole) = (found.0 ≡ codes "compact")
     × (option_map (λ path. path.now) file ≡ path_in (codes "file") found.1) × IsOffsetOf (first_of (codes "to") found.1) to
     × (option_map (λ path. path.now) output ≡ path_in (codes "output") found.1) × (quiet ≡ has_flag (codes "quiet") found.1)
-IsAskedBy found (Base file below quiet) = (found.0 ≡ codes "base")
+    × (whole ≡ has_flag (codes "whole") found.1)
+IsAskedBy found (Base file below quiet whole) = (found.0 ≡ codes "base")
     × (option_map (λ path. path.now) file ≡ path_in (codes "file") found.1) × IsOffsetOf (first_of (codes "below") found.1) (Some below)
-    × (quiet ≡ has_flag (codes "quiet") found.1)
+    × (quiet ≡ has_flag (codes "quiet") found.1) × (whole ≡ has_flag (codes "whole") found.1)
 
 -- there is a command, and it asks for this
 abbrev pub Asks : Option (Text × List Row) → LogCommand → Type 0
@@ -45,8 +46,8 @@ HasOffsetInLimits (Join listen nodes workers metrics) = ⊤
 HasOffsetInLimits Rules = ⊤
 HasOffsetInLimits (Tail file from) = IfSome from (λ offset. offset ≤ 9223372036854775807)
 HasOffsetInLimits (Check file quiet) = ⊤
-HasOffsetInLimits (Compact file to output quiet) = IfSome to (λ floor. floor ≤ 9223372036854775807)
-HasOffsetInLimits (Base file below quiet) = below ≤ 9223372036854775807
+HasOffsetInLimits (Compact file to output quiet whole) = IfSome to (λ floor. floor ≤ 9223372036854775807)
+HasOffsetInLimits (Base file below quiet whole) = below ≤ 9223372036854775807
 
 -- memory was refused, or nothing is asked for, since a value is out of its range
 abbrev pub IsMisuse : Option (Text × List Row) → Error → Type 0

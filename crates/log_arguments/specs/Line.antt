@@ -47,14 +47,14 @@ check_line = command_line (codes "check") (flag_line (codes "quiet") ∷ file_li
 
 abbrev pub compact_line : App
 compact_line = command_line (codes "compact")
-    (option_line (codes "to") ∷ option_line (codes "output") ∷ flag_line (codes "quiet") ∷ file_line false ∷ [])
+    (option_line (codes "to") ∷ option_line (codes "output") ∷ flag_line (codes "whole") ∷ flag_line (codes "quiet") ∷ file_line false ∷ [])
 
 -- `--below OFFSET`, which is wanted
 abbrev pub below_line : Rule
 below_line = record (option_line (codes "below")) { required = true }
 
 abbrev pub base_line : App
-base_line = command_line (codes "base") (below_line ∷ flag_line (codes "quiet") ∷ file_line false ∷ [])
+base_line = command_line (codes "base") (below_line ∷ flag_line (codes "whole") ∷ flag_line (codes "quiet") ∷ file_line false ∷ [])
 
 -- the program alone: it has a version, wants a command, and answers to no words at all with its help
 abbrev pub bare_program : App

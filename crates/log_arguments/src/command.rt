@@ -56,11 +56,14 @@ pub enum LogCommand<'a> {
         to: Option<u64>,
         output: Option<&'a str>,
         quiet: bool,
+        /// The line that says where the log ends is to stand behind it.
+        whole: bool,
     },
     /// It is to be written what a log, that of a file or of the input, begins with that begins anew at an offset.
     Base {
         file: Option<&'a str>,
         below: u64,
         quiet: bool,
+        whole: bool,
     },
 }

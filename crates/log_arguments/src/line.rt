@@ -147,6 +147,7 @@ pub(crate) fn compact<'a>(alloc: Global) -> Result<Command<'a>, AllocError>
         )
         .arg(floor)?
         .arg(output)?
+        .arg(whole(alloc))?
         .arg(quiet(alloc))?
         .arg(file(alloc).help(INPUT))
 }
@@ -164,6 +165,7 @@ pub(crate) fn base<'a>(alloc: Global) -> Result<Command<'a>, AllocError>
         )
         .after_help("Example: registrylog base --below 1000 registry.log > base.log")
         .arg(below)?
+        .arg(whole(alloc))?
         .arg(quiet(alloc))?
         .arg(file(alloc).help(INPUT))
 }
@@ -209,6 +211,14 @@ fn quiet<'a>(alloc: Global) -> Arg<'a>
     ensures { HasRule (flag_line (codes "quiet")) result }
 {
     flag(alloc, "quiet").help("Don't say on standard error how far the reading is")
+}
+
+fn whole<'a>(alloc: Global) -> Arg<'a>
+    ensures { HasRule (flag_line (codes "whole")) result }
+{
+    flag(alloc, "whole").help(
+        "Write a line behind the log that says where it ends, as an adapter's init wants it",
+    )
 }
 
 fn new_log<'a>(alloc: Global) -> Arg<'a>

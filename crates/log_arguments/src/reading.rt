@@ -183,12 +183,14 @@ fn compact_in<'a>(found: &ArgMatches<'a>) -> Result<LogCommand<'a>, Fault<'a>>
     let file = path_in(found, "file");
     let output = path_in(found, "output");
     let quiet = has_flag(found, "quiet");
+    let whole = has_flag(found, "whole");
     match offset_in(found, "to") {
         Ok(to) => Ok(LogCommand::Compact {
             file,
             to,
             output,
             quiet,
+            whole,
         }),
         Err(fault) => Err(fault),
     }
@@ -199,8 +201,14 @@ fn base_in<'a>(found: &ArgMatches<'a>) -> Result<LogCommand<'a>, Fault<'a>>
 {
     let file = path_in(found, "file");
     let quiet = has_flag(found, "quiet");
+    let whole = has_flag(found, "whole");
     match offset_in(found, "below") {
-        Ok(Some(below)) => Ok(LogCommand::Base { file, below, quiet }),
+        Ok(Some(below)) => Ok(LogCommand::Base {
+            file,
+            below,
+            quiet,
+            whole,
+        }),
         Ok(None) => Err(Fault::Below),
         Err(fault) => Err(fault),
     }

@@ -4,7 +4,8 @@ ghost use Rattle.reg_records.specs.declared.limits.TheConstants.{OFFSET_LIMIT};
 
 use crate::form::{Came, Form, shown};
 use reg_compaction::{
-    ToFloorError, compacted, compacted_in_order, compacted_to, compacted_to_in_order,
+    ToFloorError, compact, compacted, compacted_in_order, compacted_to, compacted_to_in_order,
+    write_whole,
 };
 use reg_inspection::{cause_of, obstacles};
 use reg_records::{Device, Log, OFFSET_LIMIT, read_log};
@@ -27,6 +28,21 @@ fn left(alloc: Global, command: &str, floor: u64, log: &str) -> Came {
     match left_of(alloc, command, floor, &bytes_of(alloc, log)?) {
         Ok(text) => shown(alloc, &text),
         Err(error) => Ok(format!(in alloc; "{error:?}")?),
+    }
+}
+
+/// What a filter writes of a log, or why it ends.
+fn written(alloc: Global, command: &str, log: &str) -> Came {
+    let bytes = bytes_of(alloc, log)?;
+    let mut text = Vec::new(alloc);
+    let ended = if command == "whole" {
+        write_whole(alloc, bytes, &mut text)
+    } else {
+        compact(alloc, &mut bytes.as_slice(), &mut text)
+    };
+    match ended {
+        Ok(()) => shown(alloc, &text),
+        Err(error) => Ok(format!(in alloc; "{error}")?),
     }
 }
 
@@ -74,6 +90,7 @@ impl Form for Bytes {
         match command {
             "compact" | "order" => left(alloc, command, 0, rest),
             "compact-to" | "order-to" => left(alloc, command, number_of(floor)?, log),
+            "whole" | "filter" => written(alloc, command, rest),
             _ => said(alloc, command, &bytes_of(alloc, rest)?),
         }
     }

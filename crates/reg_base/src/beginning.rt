@@ -2,6 +2,7 @@
 ghost use Rattle.std.specs.Prelude.{◌≡◌, List, ℕ, IfErr, IfOk, IfSome, OnOk};
 ghost use Rattle.std.specs.Io.KnownBytes.{Appends};
 ghost use Rattle.reg_compaction.specs.Filter.{IsFlushed};
+ghost use Rattle.reg_compaction.specs.Whole.{IsNotCut};
 ghost use Rattle.reg_base.specs.Base.{IsBase};
 ghost use Rattle.reg_base.specs.Refusals.{IsBaseRefusal, IsNoBase};
 
@@ -15,7 +16,8 @@ use std::io::Read;
 
 /// Reads a log to the end of the input, and writes what a log begins with that begins anew at an offset: a compaction of
 /// what stands below it, in the order of the offsets, at the log's floor and with that next offset. What stands behind
-/// the log's empty line is left out. The log is read to its end before the first byte is written.
+/// the log's empty line is left out, but a line that says where the log ends has to be right. The log is read to its end
+/// before the first byte is written.
 pub fn base<R: Read, W: Output>(
     alloc: Global,
     below: u64,
@@ -24,6 +26,7 @@ pub fn base<R: Read, W: Output>(
 ) -> Result<(), BaseError>
     ensures written { OnOk result (IfSome (R.remaining reader.old) (λ input. (out : List ℕ) × IsBase below input out
         × Appends (W.contents writer.old) (W.contents writer.new) out)) }
+    ensures not_cut { OnOk result (IfSome (R.remaining reader.old) IsNotCut) }
     ensures flushed { OnOk result (IsFlushed W.contents W.flushes writer.new) }
     ensures refused { IfErr result (IsBaseRefusal below (R.remaining reader.old) (W.contents writer.old) (W.contents writer.new)) }
 {

@@ -7,12 +7,13 @@ use Rattle.reg_records.specs.Log.{log_of}
 use Rattle.reg_records.specs.declared.log.LogError.{LogError}
 use Rattle.reg_records.specs.declared.log.LogError.TheVariants as logs
 use Rattle.reg_compaction.specs.CompactedTo.{IsToFloorRefusal}
+use Rattle.reg_compaction.specs.Whole.{IsCut}
 use Rattle.reg_compaction.specs.declared.filter.FilterError.{FilterError}
 use Rattle.reg_compaction.specs.declared.filter.FilterError.TheVariants.{Log, ReadFault}
 use Rattle.reg_compaction.specs.declared.filter.FilterError.TheVariants.{WriteFault}
 use Rattle.reg_compaction.specs.declared.filter.FilterError.TheVariants.{FloorBelow}
 use Rattle.reg_compaction.specs.declared.filter.FilterError.TheVariants.{FloorAhead}
-use Rattle.reg_compaction.specs.declared.filter.FilterError.TheVariants.{NoRoom, OutOfMemory}
+use Rattle.reg_compaction.specs.declared.filter.FilterError.TheVariants.{NoRoom, Cut, OutOfMemory}
 use Rattle.reg_compaction.specs.declared.to_floor.ToFloorError.{ToFloorError}
 use Rattle.reg_compaction.specs.declared.to_floor.ToFloorError.TheVariants as floors
 
@@ -28,6 +29,7 @@ IsFilterRefusal input old new WriteFault = ⊤
 IsFilterRefusal input old new (FloorBelow own) = ⊥
 IsFilterRefusal input old new (FloorAhead next) = ⊥
 IsFilterRefusal input old new NoRoom = ⊥
+IsFilterRefusal input old new Cut = IfSome input IsCut × Keeps old new
 IsFilterRefusal input old new OutOfMemory = Keeps old new
 
 -- so where a log is compacted to a floor; one that it can't have is reported, and nothing was written then
@@ -40,17 +42,19 @@ IsFilterRefusalTo floor input old new (FloorBelow own) = IfSome input (λ text. 
 IsFilterRefusalTo floor input old new (FloorAhead next) = IfSome input (λ text. IsToFloorRefusal text floor (floors.FloorAhead next))
     × Keeps old new
 IsFilterRefusalTo floor input old new NoRoom = IfSome input (λ text. IsToFloorRefusal text floor floors.NoRoom) × Keeps old new
+IsFilterRefusalTo floor input old new Cut = IsFilterRefusal input old new Cut
 IsFilterRefusalTo floor input old new OutOfMemory = IsFilterRefusal input old new OutOfMemory
 
--- the reader failed, or memory was refused
-abbrev pub IsNoReading : FilterError → Type 0
-IsNoReading (Log line fault) = ⊥
-IsNoReading ReadFault = ⊤
-IsNoReading WriteFault = ⊥
-IsNoReading (FloorBelow own) = ⊥
-IsNoReading (FloorAhead next) = ⊥
-IsNoReading NoRoom = ⊥
-IsNoReading OutOfMemory = ⊤
+-- the reader failed, memory was refused, or the input is cut; a fault of its log may be met then
+abbrev pub IsNoReading : Option (List ℕ) → FilterError → Type 0
+IsNoReading input (Log line fault) = IfSome input (λ text. log_of text ≡ Err (line, fault))
+IsNoReading input ReadFault = ⊤
+IsNoReading input WriteFault = ⊥
+IsNoReading input (FloorBelow own) = ⊥
+IsNoReading input (FloorAhead next) = ⊥
+IsNoReading input NoRoom = ⊥
+IsNoReading input Cut = IfSome input IsCut
+IsNoReading input OutOfMemory = ⊤
 
 abbrev pub filter_error_of : LogError → FilterError
 filter_error_of (logs.Fault line fault) = Log line fault
@@ -71,6 +75,7 @@ filter_error_text WriteFault = codes "WriteFault"
 filter_error_text (FloorBelow own) = codes "below the floor " ++ decimal own
 filter_error_text (FloorAhead next) = codes "ahead of the next offset " ++ decimal next
 filter_error_text NoRoom = codes "no room for the floor"
+filter_error_text Cut = codes "the line behind the log says another end: a part is missing"
 filter_error_text OutOfMemory = codes "OutOfMemory"
 
 -- the exit status of a program that ends with it
@@ -81,4 +86,5 @@ exit_status WriteFault = 1
 exit_status (FloorBelow own) = 2
 exit_status (FloorAhead next) = 2
 exit_status NoRoom = 2
+exit_status Cut = 2
 exit_status OutOfMemory = 1

@@ -9,3 +9,4 @@ pub mod Said
 pub mod Shrunk
 pub mod Sorted
 pub mod Walk
+pub mod Whole

@@ -5,10 +5,12 @@ ghost use Rattle.reg_journal.specs.Found.{HasFault};
 ghost use Rattle.reg_records.specs.declared.limits.TheConstants.{OFFSET_LIMIT};
 ghost use Rattle.reg_compaction.specs.Filter.{IsFilterRefusal, IsFilterRefusalTo, IsFlushed, IsNoReading, filter_error_of, filter_error_to};
 ghost use Rattle.reg_compaction.specs.Sorted.{IsSortedCompaction, IsSortedCompactionTo};
+ghost use Rattle.reg_compaction.specs.Whole.{IsNotCut};
 ghost use Rattle.reg_compaction.specs.declared.filter.FilterError.TheVariants.{WriteFault};
 
 use crate::sorting::{compacted_in_order, compacted_to_in_order};
 use crate::to_floor::ToFloorError;
+use crate::whole::check_end;
 use reg_records::{LogError, LogFault, Output};
 use std::alloc::Global;
 use std::error::Error;
@@ -30,6 +32,8 @@ pub enum FilterError {
     FloorAhead(u64),
     /// With the floor's line the log would have more lines than a log may have. Nothing was written.
     NoRoom,
+    /// The line behind the log says another end than the log's. Nothing was written.
+    Cut,
     /// The log didn't find room. Nothing was written.
     OutOfMemory,
 }
@@ -46,7 +50,8 @@ impl FilterError {
             FilterError::Log { line: _, fault: _ }
             | FilterError::FloorBelow(_)
             | FilterError::FloorAhead(_)
-            | FilterError::NoRoom => 2,
+            | FilterError::NoRoom
+            | FilterError::Cut => 2,
             FilterError::ReadFault | FilterError::WriteFault | FilterError::OutOfMemory => 1,
         }
     }
@@ -66,6 +71,10 @@ impl fmt::Display for FilterError {
             FilterError::FloorBelow(own) => write!(f, "below the floor {own}"),
             FilterError::FloorAhead(next) => write!(f, "ahead of the next offset {next}"),
             FilterError::NoRoom => write!(f, "no room for the floor"),
+            FilterError::Cut => write!(
+                f,
+                "the line behind the log says another end: a part is missing"
+            ),
             FilterError::OutOfMemory => write!(f, "OutOfMemory"),
         }
     }
@@ -74,7 +83,8 @@ impl fmt::Display for FilterError {
 impl Error for FilterError {}
 
 /// Reads a log to the end of the input, and writes what compacting leaves of it, by the offsets. What stands behind the
-/// log's empty line is left out. The log is read to its end before the first byte is written.
+/// log's empty line is left out, but a line that says where the log ends has to be right. The log is read to its end before
+/// the first byte is written.
 pub fn compact<R: Read, W: Output>(
     alloc: Global,
     reader: &mut R,
@@ -82,6 +92,7 @@ pub fn compact<R: Read, W: Output>(
 ) -> Result<(), FilterError>
     ensures written { OnOk result (IfSome (R.remaining reader.old) (λ input. (out : List ℕ) × IsSortedCompaction input out
         × Appends (W.contents writer.old) (W.contents writer.new) out)) }
+    ensures not_cut { OnOk result (IfSome (R.remaining reader.old) IsNotCut) }
     ensures flushed { OnOk result (IsFlushed W.contents W.flushes writer.new) }
     ensures refused { IfErr result (IsFilterRefusal (R.remaining reader.old) (W.contents writer.old) (W.contents writer.new)) }
 {
@@ -102,6 +113,7 @@ pub fn compact_to<R: Read, W: Output>(
     requires { floor ≤ OFFSET_LIMIT }
     ensures written { OnOk result (IfSome (R.remaining reader.old) (λ input. (out : List ℕ) × IsSortedCompactionTo floor input out
         × Appends (W.contents writer.old) (W.contents writer.new) out)) }
+    ensures not_cut { OnOk result (IfSome (R.remaining reader.old) IsNotCut) }
     ensures flushed { OnOk result (IsFlushed W.contents W.flushes writer.new) }
     ensures refused { IfErr result (IsFilterRefusalTo floor (R.remaining reader.old) (W.contents writer.old) (W.contents writer.new)) }
 {
@@ -112,14 +124,18 @@ pub fn compact_to<R: Read, W: Output>(
     }
 }
 
-/// All that a reader gives: the input of a filter.
+/// All that a reader gives: the input of a filter, unless a line behind its log says that it is cut.
 pub fn read_input<R: Read>(alloc: Global, reader: &mut R) -> Result<Vec<u8>, FilterError>
     ensures read { IfOk result (λ bytes. IfSome (R.remaining reader.old) (λ input. bytes.items ≡ input)) }
-    ensures refused { IfErr result IsNoReading }
+    ensures not_cut { OnOk result (IfSome (R.remaining reader.old) IsNotCut) }
+    ensures refused { IfErr result (IsNoReading (R.remaining reader.old)) }
 {
     let mut bytes = Vec::new(alloc);
     match reader.read_to_end(&mut bytes) {
-        Ok(_) => Ok(bytes),
+        Ok(_) => match check_end(alloc, &bytes) {
+            Ok(()) => Ok(bytes),
+            Err(e) => Err(e),
+        },
         Err(e) => match e.kind() {
             ErrorKind::OutOfMemory => Err(FilterError::OutOfMemory),
             _ => Err(FilterError::ReadFault),

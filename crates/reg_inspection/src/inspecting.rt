@@ -2,6 +2,7 @@
 ghost use Rattle.std.specs.Prelude.{IfErr, IfOk, IfSome, OnOk};
 ghost use Rattle.reg_journal.specs.Found.{HasFault};
 ghost use Rattle.reg_compaction.specs.Filter.{IsFilterRefusal, IsFlushed};
+ghost use Rattle.reg_compaction.specs.Whole.{IsNotCut};
 ghost use Rattle.reg_inspection.specs.Inspection.{Describes, Reports};
 
 use crate::inspection::inspected;
@@ -12,8 +13,8 @@ use std::alloc::Global;
 use std::io::Read;
 
 /// Reads a log to the end of the input, writes what it holds and what keeps it from being served, a line a fact, and
-/// says whether nothing does. What stands behind the log's empty line is left out. The log is read to its end before
-/// the first byte is written.
+/// says whether nothing does. What stands behind the log's empty line is left out, but a line that says where the log ends
+/// has to be right. The log is read to its end before the first byte is written.
 pub fn inspect<R: Read, W: Output>(
     alloc: Global,
     reader: &mut R,
@@ -21,6 +22,7 @@ pub fn inspect<R: Read, W: Output>(
 ) -> Result<bool, FilterError>
     ensures written { IfOk result (λ servable. IfSome (R.remaining reader.old) (λ input.
         Reports input servable (W.contents writer.old) (W.contents writer.new))) }
+    ensures not_cut { OnOk result (IfSome (R.remaining reader.old) IsNotCut) }
     ensures flushed { OnOk result (IsFlushed W.contents W.flushes writer.new) }
     ensures refused { IfErr result (IsFilterRefusal (R.remaining reader.old) (W.contents writer.old) (W.contents writer.new)) }
 {

@@ -30,6 +30,9 @@ pub(crate) enum KeepError {
     /// The file in which the output would be written first exists already.
     #[error("there is a file with .new behind the name of the output already")]
     Unfinished,
+    /// A line behind the log says where it ends.
+    #[error("a line behind the log says where it ends, as --whole writes it: registrylog compact leaves it out")]
+    Whole,
     /// Memory was refused.
     #[error("OutOfMemory")]
     OutOfMemory,
@@ -51,7 +54,7 @@ impl KeepError {
     /// missing, there already, faulty or can't be served, else 1.
     pub(crate) fn status(self) -> u8 {
         match self {
-            KeepError::InUse | KeepError::Missing | KeepError::Exists => 2,
+            KeepError::InUse | KeepError::Missing | KeepError::Exists | KeepError::Whole => 2,
             KeepError::Line { line: _, fault: _ } => 2,
             KeepError::Start(ServiceError::Closed(_)) => 2,
             KeepError::File(_)

@@ -8,7 +8,7 @@ use crate::fault::KeepError;
 use crate::progress::Progress;
 use crate::replacing::NewFile;
 use reg_base::{BaseError, base as write_base};
-use reg_compaction::{compact as write_compact, compact_to};
+use reg_compaction::{compact as write_compact, compact_to, write_whole};
 use reg_inspection::inspect;
 use std::alloc::Global;
 use std::fs::{File, Files};
@@ -79,9 +79,16 @@ pub(crate) fn base<
         + Sync
         + Drop
         + 'static,
->(rt: R, alloc: Global, file: Option<&str>, below: u64, quiet: bool) -> io::Result<Finished> {
+>(
+    rt: R,
+    alloc: Global,
+    file: Option<&str>,
+    below: u64,
+    quiet: bool,
+    whole: bool,
+) -> io::Result<Finished> {
     let progress = Progress::begin(rt, alloc, file, quiet)?;
-    let ended = base_log(&rt, alloc, file, below, &progress);
+    let ended = base_log(&rt, alloc, file, below, whole, &progress);
     progress.end(&rt);
     ended
 }
@@ -92,16 +99,17 @@ fn base_log<R: Input + Print + Eprint + Files<File = File>>(
     alloc: Global,
     file: Option<&str>,
     below: u64,
+    whole: bool,
     progress: &Progress,
 ) -> io::Result<Finished> {
     let Some(path) = file else {
         let mut reader = progress.counted(rt.reader())?;
-        return base_from(rt, alloc, &mut reader, below);
+        return base_from(rt, alloc, &mut reader, below, whole);
     };
     match open_log_file(rt, path, progress) {
         Ok(file) => {
             let mut reader = progress.counted(file)?;
-            base_from(rt, alloc, &mut reader, below)
+            base_from(rt, alloc, &mut reader, below, whole)
         }
         Err(error) => kept(rt, Err(KeepError::from(error))),
     }
@@ -112,12 +120,27 @@ fn base_from<R: Print + Eprint, S: Read>(
     alloc: Global,
     reader: &mut S,
     below: u64,
+    whole: bool,
 ) -> io::Result<Finished> {
     let mut writer = BufWriter::new(alloc, io::writer(rt))?;
-    filtered(
-        rt,
-        write_base(alloc, below, reader, &mut writer).map(|()| true),
-    )
+    let written = if whole {
+        whole_base(alloc, reader, below, &mut writer)
+    } else {
+        write_base(alloc, below, reader, &mut writer)
+    };
+    filtered(rt, written.map(|()| true))
+}
+
+/// Writes a base, and the line that says where it ends.
+fn whole_base<S: Read, W: Write>(
+    alloc: Global,
+    reader: &mut S,
+    below: u64,
+    writer: &mut W,
+) -> Result<(), BaseError> {
+    let mut text = Vec::new(alloc);
+    write_base(alloc, below, reader, &mut text)?;
+    Ok(write_whole(alloc, text, writer)?)
 }
 
 /// Opens the file of a log for reading.
@@ -140,6 +163,8 @@ pub(crate) struct Wish<'a> {
     pub(crate) floor: Option<u64>,
     /// Where to write the result; `None` for the output.
     pub(crate) output: Option<&'a str>,
+    /// Whether the line that says where a log ends is to stand behind it.
+    pub(crate) whole: bool,
 }
 
 /// Runs `registrylog compact`.
@@ -196,12 +221,12 @@ fn compact_from<R: Print + Eprint + Files<File = File>, S: Read>(
 {
     let Some(path) = wish.output else {
         let mut writer = BufWriter::new(alloc, io::writer(rt))?;
-        let written = compacted(alloc, reader, wish.floor, &mut writer);
+        let written = compacted(alloc, reader, wish, &mut writer);
         return filtered(rt, written.map(|()| true));
     };
     match NewFile::begin(rt, alloc, path) {
         Ok(mut new) => {
-            let written = compacted(alloc, reader, wish.floor, &mut new.file);
+            let written = compacted(alloc, reader, wish, &mut new.file);
             put(rt, &new, written)
         }
         Err(fault) => kept(rt, Err(fault)),
@@ -226,6 +251,22 @@ fn put<R: Eprint + Files<File = File>>(
 }
 
 fn compacted<S: Read, W: Write>(
+    alloc: Global,
+    reader: &mut S,
+    wish: Wish<'_>,
+    writer: &mut W,
+) -> Result<(), BaseError>
+    requires { IfSome wish.floor (λ offset. offset ≤ OFFSET_LIMIT) }
+{
+    if !wish.whole {
+        return lasts(alloc, reader, wish.floor, writer);
+    }
+    let mut text = Vec::new(alloc);
+    lasts(alloc, reader, wish.floor, &mut text)?;
+    Ok(write_whole(alloc, text, writer)?)
+}
+
+fn lasts<S: Read, W: Write>(
     alloc: Global,
     reader: &mut S,
     floor: Option<u64>,

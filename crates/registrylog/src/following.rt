@@ -1,5 +1,6 @@
 // `registrylog follow`: nodes over the lines of the standard input.
-use crate::ends::{Finished, followed};
+use crate::ends::{Finished, followed, kept};
+use crate::fault::KeepError;
 use crate::hearing::CountedLines;
 use crate::place::Place;
 use crate::watching::SharedBoard;
@@ -63,5 +64,8 @@ pub(crate) fn follow<
     };
     let size = place.size();
     let served = serve_lines(rt, alloc, size, reader, &board.traffic, &mut ports);
+    if board.is_whole.is_set() {
+        return kept(&rt, Err(KeepError::Whole));
+    }
     followed(&rt, served)
 }

@@ -1,10 +1,11 @@
 // The lines of the input, counted as they come.
+use crate::opening::has_end;
 use crate::watching::{SharedBoard, date};
-use std::io::{self, Read};
+use std::io::{self, ErrorKind, Read};
 use std::time::Clock;
 
 /// A reader of the lines of a followed log, which counts them. They end with the input or with an
-/// empty line.
+/// empty line; a line behind that which says where they end is an error.
 #[derive(Drop)]
 pub(crate) struct CountedLines<I: Drop, R: Drop> {
     rt: R,
@@ -57,6 +58,10 @@ impl<I: Read + Drop, R: Clock + Drop> Read for CountedLines<I, R> {
         let read = self.input.read(buf)?;
         if let Some(bytes) = buf.get(..read) {
             self.count(bytes);
+            if self.board.marks.has_ended.is_set() && has_end(bytes) {
+                self.board.is_whole.set(true);
+                return Err(io::Error::from(ErrorKind::InvalidData));
+            }
         }
         Ok(read)
     }

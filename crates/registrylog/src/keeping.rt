@@ -1,7 +1,7 @@
 // `registrylog keep`: nodes over a log in a file.
 use crate::fault::KeepError;
 use crate::metered::MeteredFile;
-use crate::opening::{Locked, open_file, start_log, sync_folder};
+use crate::opening::{Locked, check_no_end, open_file, start_log, sync_folder};
 use crate::place::Place;
 use crate::progress::Progress;
 use crate::telling::Telling;
@@ -124,6 +124,7 @@ pub(crate) fn open_log<R: Files<File = File> + Clock + Eprint + Copy + Drop>(
 ) -> Result<ToldLog<R>, KeepError> {
     let path = locked.path.as_str();
     let file = open_file(&rt, path)?;
+    check_no_end(&rt, alloc, path)?;
     sync_folder(&rt, path)?;
     let like = file.metadata()?;
     ports.has_size(like.len());

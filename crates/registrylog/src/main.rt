@@ -33,7 +33,7 @@ use crate::filtering::{Wish, base, check, compact};
 use crate::following::{PIECE, follow};
 use crate::joining::{HeardInput, JoinCounts, JoinPorts, JoinWatch, tell_rules};
 use crate::keeping::{KeepPorts, ended, open_log, open_short};
-use crate::opening::lock;
+use crate::opening::{check_no_end, lock};
 use crate::place::Place;
 use crate::progress::Progress;
 use crate::watching::{Shown, make_board, shown_by};
@@ -148,21 +148,32 @@ fn main(rt: HostRuntime) -> io::Result<Finished> {
         }
         LogCommand::Rules => told(tell_rules(&rt)),
         LogCommand::Tail { file, from } => {
+            let checked = check_no_end(&rt, alloc, file);
+            if checked == Err(KeepError::Whole) {
+                return kept(&rt, checked);
+            }
             let error = follow_file(&rt, alloc, file, from, &mut io::writer(&rt));
             tailed(&rt, error)
         }
         LogCommand::Check { file, quiet } => check(rt, alloc, file, quiet),
-        LogCommand::Base { file, below, quiet } => base(rt, alloc, file, below, quiet),
+        LogCommand::Base {
+            file,
+            below,
+            quiet,
+            whole,
+        } => base(rt, alloc, file, below, quiet, whole),
         LogCommand::Compact {
             file,
             to,
             output,
             quiet,
+            whole,
         } => {
             let wish = Wish {
                 file,
                 floor: to,
                 output,
+                whole,
             };
             compact(rt, alloc, wish, quiet)
         }

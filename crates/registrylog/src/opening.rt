@@ -1,15 +1,18 @@
 // Opens the file of a log under its lock.
 use crate::fault::KeepError;
 use crate::metered::MeteredFile;
-use reg_compaction::{Aside, Opens};
+use reg_compaction::{Aside, Opens, is_end};
 use reg_file_keep::{NotStarted, Started, start_file_keep};
 use reg_journal::{DiskError, StoredFile, lock_file, make_alike, remove_if_there};
 use std::alloc::Global;
 use std::fs::{File, Files, Metadata, Permissions};
-use std::io::{self, Eprint, ErrorKind};
+use std::io::{self, Eprint, ErrorKind, Read, Seek, SeekFrom};
 use std::os::unix::fs::{MetadataExt, OpenOptionsExt, PermissionsExt, fchown};
 use std::path::Path;
 use std::time::Clock;
+
+/// How many bytes at the end of a file are looked at for the line that says where its log ends.
+const END_BYTES: u64 = 64;
 
 /// The permissions of a lock: whoever can read it could take it.
 const LOCK_RIGHTS: u32 = 0o600;
@@ -96,6 +99,32 @@ pub(crate) fn open_file<R: Files<File = File>>(rt: &R, path: &str) -> Result<Fil
     let file = File::options().read(true).write(true).open(rt, path)?;
     taken(lock_file(&file))?;
     Ok(file)
+}
+
+/// Refuses the file of a log with a line behind it that says where it ends: nothing is appended
+/// there.
+pub(crate) fn check_no_end<R: Files<File = File>>(
+    rt: &R,
+    alloc: Global,
+    path: &str,
+) -> Result<(), KeepError> {
+    let mut file = File::open(rt, path)?;
+    let from = file.metadata()?.len().saturating_sub(END_BYTES);
+    file.seek(SeekFrom::Start(from))?;
+    let mut bytes = Vec::new(alloc);
+    file.read_to_end(&mut bytes)?;
+    match has_end(&bytes) {
+        true => Err(KeepError::Whole),
+        false => Ok(()),
+    }
+}
+
+/// Returns whether such a line stands behind an LF of these bytes.
+pub(crate) fn has_end(bytes: &[u8]) -> bool {
+    bytes
+        .split(|byte| *byte == b'\n')
+        .skip(1)
+        .any(|line| is_end(line))
 }
 
 /// Returns the path with `more` after its name.

@@ -50,6 +50,8 @@ pub(crate) struct Board {
     pub(crate) is_quota_used_up: Mark,
     /// Only for `follow`.
     pub(crate) lines: LineMeters,
+    /// Whether a line behind those says where they end.
+    pub(crate) is_whole: Mark,
     /// Only for `join`.
     pub(crate) adapter: AdapterMeters,
 }
@@ -89,6 +91,7 @@ pub(crate) fn make_board<R: Clock>(rt: &R, alloc: Global) -> Result<SharedBoard,
         is_disk_full: Mark::new(),
         is_quota_used_up: Mark::new(),
         lines: LineMeters::new(),
+        is_whole: Mark::new(),
         adapter: AdapterMeters::new(),
     };
     let begun = date(rt);

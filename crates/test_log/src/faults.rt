@@ -64,6 +64,10 @@ fn errors_are_told(rt: HostRuntime) -> Made<()> {
         (FilterError::ReadFault, "1: ReadFault"),
         (FilterError::WriteFault, "1: WriteFault"),
         (FilterError::NoRoom, "2: no room for the floor"),
+        (
+            FilterError::Cut,
+            "2: the line behind the log says another end: a part is missing",
+        ),
     ] {
         assert!(rt; ends_with(rt.alloc(), error, wanted)?, "{wanted}");
     }

@@ -10,5 +10,6 @@ returns c =
     let below : HasRule below_line c.help-below.result = search rules in
     let file : HasRule (file_line false) c.help.result = search rules in
     let one = HasLine-arg _ _ _ _ _ bare below c.in_ok-arg.ensures in
-    let two = HasLine-arg _ _ _ _ _ one c.quiet.ensures c.in_ok-arg-2.ensures in
-    HasLine-last _ _ c.arg-3.result _ _ two file c.arg-3.ensures
+    let two = HasLine-arg _ _ _ _ _ one c.whole.ensures c.in_ok-arg-2.ensures in
+    let three = HasLine-arg _ _ _ _ _ two c.quiet.ensures c.in_ok-arg-3.ensures in
+    HasLine-last _ _ c.arg-4.result _ _ three file c.arg-4.ensures

@@ -12,5 +12,6 @@ returns c =
     let file : HasRule (file_line false) c.help.result = search rules in
     let one = HasLine-arg _ _ _ _ _ bare floor c.in_ok-arg.ensures in
     let two = HasLine-arg _ _ _ _ _ one output c.in_ok-arg-2.ensures in
-    let three = HasLine-arg _ _ _ _ _ two c.quiet.ensures c.in_ok-arg-3.ensures in
-    HasLine-last _ _ c.arg-4.result _ _ three file c.arg-4.ensures
+    let three = HasLine-arg _ _ _ _ _ two c.whole.ensures c.in_ok-arg-3.ensures in
+    let four = HasLine-arg _ _ _ _ _ three c.quiet.ensures c.in_ok-arg-4.ensures in
+    HasLine-last _ _ c.arg-5.result _ _ four file c.arg-5.ensures
