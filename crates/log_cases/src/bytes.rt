@@ -5,7 +5,7 @@ ghost use Rattle.reg_records.specs.declared.limits.TheConstants.{OFFSET_LIMIT};
 use crate::form::{Came, Form, shown};
 use reg_compaction::{
     ToFloorError, compact, compacted, compacted_in_order, compacted_to, compacted_to_in_order,
-    write_whole,
+    write_whole_log,
 };
 use reg_inspection::{cause_of, obstacles};
 use reg_records::{Device, Log, OFFSET_LIMIT, read_log};
@@ -36,7 +36,7 @@ fn written(alloc: Global, command: &str, log: &str) -> Came {
     let bytes = bytes_of(alloc, log)?;
     let mut text = Vec::new(alloc);
     let ended = if command == "whole" {
-        write_whole(alloc, bytes, &mut text)
+        write_whole_log(alloc, bytes, &mut text)
     } else {
         compact(alloc, &mut bytes.as_slice(), &mut text)
     };

@@ -22,4 +22,4 @@ pub use laws::compactions_stand_for_logs;
 pub use opening::{Aside, Opens, open_aside};
 pub use sorting::{compacted_in_order, compacted_to_in_order};
 pub use to_floor::{ToFloorError, compacted_to};
-pub use whole::{check_end, is_end, write_whole};
+pub use whole::{check_end, is_end, write_whole_log};

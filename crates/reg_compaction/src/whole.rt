@@ -19,7 +19,7 @@ const LINE_MARK: &[u8] = b"\nend ";
 
 /// Writes a log that no empty line ends yet, an empty line, and the line that says how many lines of records the log has,
 /// and its next offset.
-pub fn write_whole<W: Output>(
+pub fn write_whole_log<W: Output>(
     alloc: Global,
     log: Vec<u8>,
     writer: &mut W,

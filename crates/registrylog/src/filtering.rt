@@ -8,7 +8,7 @@ use crate::fault::KeepError;
 use crate::progress::Progress;
 use crate::replacing::NewFile;
 use reg_base::{BaseError, base as write_base};
-use reg_compaction::{compact as write_compact, compact_to, write_whole};
+use reg_compaction::{compact as write_compact, compact_to, write_whole_log};
 use reg_inspection::inspect;
 use std::alloc::Global;
 use std::fs::{File, Files};
@@ -140,7 +140,7 @@ fn whole_base<S: Read, W: Write>(
 ) -> Result<(), BaseError> {
     let mut text = Vec::new(alloc);
     write_base(alloc, below, reader, &mut text)?;
-    Ok(write_whole(alloc, text, writer)?)
+    Ok(write_whole_log(alloc, text, writer)?)
 }
 
 /// Opens the file of a log for reading.
@@ -263,7 +263,7 @@ fn compacted<S: Read, W: Write>(
     }
     let mut text = Vec::new(alloc);
     lasts(alloc, reader, wish.floor, &mut text)?;
-    Ok(write_whole(alloc, text, writer)?)
+    Ok(write_whole_log(alloc, text, writer)?)
 }
 
 fn lasts<S: Read, W: Write>(
