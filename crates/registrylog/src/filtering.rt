@@ -138,7 +138,7 @@ fn whole_base<S: Read, W: Write>(
     below: u64,
     writer: &mut W,
 ) -> Result<(), BaseError> {
-    let mut text = Vec::new(alloc);
+    let mut text: Vec<u8> = Vec::new(alloc);
     write_base(alloc, below, reader, &mut text)?;
     Ok(write_whole_log(alloc, text, writer)?)
 }
@@ -261,7 +261,7 @@ fn compacted<S: Read, W: Write>(
     if !wish.whole {
         return lasts(alloc, reader, wish.floor, writer);
     }
-    let mut text = Vec::new(alloc);
+    let mut text: Vec<u8> = Vec::new(alloc);
     lasts(alloc, reader, wish.floor, &mut text)?;
     Ok(write_whole_log(alloc, text, writer)?)
 }

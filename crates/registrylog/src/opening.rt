@@ -113,18 +113,20 @@ pub(crate) fn check_no_end<R: Files<File = File>>(
     file.seek(SeekFrom::Start(from))?;
     let mut bytes = Vec::new(alloc);
     file.read_to_end(&mut bytes)?;
-    match has_end(&bytes) {
-        true => Err(KeepError::Whole),
-        false => Ok(()),
+    if has_end(&bytes) {
+        return Err(KeepError::Whole);
     }
+    Ok(())
 }
 
 /// Returns whether such a line stands behind an LF of these bytes.
 pub(crate) fn has_end(bytes: &[u8]) -> bool {
-    bytes
-        .split(|byte| *byte == b'\n')
-        .skip(1)
-        .any(|line| is_end(line))
+    for place in 0..bytes.len() {
+        if bytes[place] == b'\n' && is_end(&bytes[place + 1..]) {
+            return true;
+        }
+    }
+    false
 }
 
 /// Returns the path with `more` after its name.
