@@ -6,7 +6,7 @@
 A command stands behind `$ ` in a block, up to where a shell has all of it, and what it prints in the lines behind it. The commands of
 a page run in one shell, in a new folder. Ports 8081 to 8085 stand for five free ones, which are picked. What a command in the background
 prints is waited for, and a lookup by `curl` is asked again until it is answered so, 20 seconds at most. For `kcat`, which needs a
-cluster, stands a script that prints the one record in KCAT. Ends of lines and line breaks at the end aren't compared. Blocks without `$ `
+cluster, stands a script that prints the records in KCAT. Ends of lines and line breaks at the end aren't compared. Blocks without `$ `
 prove or build, and aren't run. It ends only what it started.
 
 Behind `./NAME --try` the given program runs. Lines that begin with `NAME: ` there are those of --try itself, and aren't compared; if one
@@ -28,8 +28,8 @@ TOP = Path(__file__).resolve().parent.parent
 PAGES = ["README.md", "docs/TOUR.md"]
 PATIENCE = 20  # seconds
 TRIED = re.compile(r"\./(\w+) --try ")
-KCAT = r"""1\t{"keytype":"SCHEMA","subject":"s","version":1,"magic":1}\t{"subject":"s","version":1,"id":1,"schema":"\"string\"","deleted":false}
-2\t{"keytype":"CONFIG","subject":"t","magic":0}\tNULL
+KCAT = r"""[1, "{\"keytype\":\"SCHEMA\",\"subject\":\"s\",\"version\":1,\"magic\":1}", "{\"subject\":\"s\",\"version\":1,\"id\":1,\"schema\":\"\\\"string\\\"\",\"deleted\":false}"]
+[2, "{\"keytype\":\"CONFIG\",\"subject\":\"t\",\"magic\":0}", null]
 """
 
 
@@ -137,10 +137,14 @@ def put_programs(folder, programs, port):
     by_file = Path(folder, "bin", "by_file.py")
     by_file.write_text(f'#!/bin/bash\nexec python3 "{TOP}/benches/join/by_file.py" "$@"\n')
     by_file.chmod(0o755)
-    Path(folder, "kcat-record").write_text(KCAT.replace("\\t", "\t"))
+    Path(folder, "kcat-records").write_text(KCAT)
     kcat = Path(folder, "bin", "kcat")
-    kcat.write_text(f'#!/bin/bash\nexec cat "{folder}/kcat-record"\n')
-    kcat.chmod(0o755)
+    kcat.write_text(f'#!/bin/bash\nSTAND_IN_RECORDS="{folder}/kcat-records" exec python3 "{TOP}/tools/stand-in-kcat" "$@"\n')
+    Path(folder, "work", "tools").mkdir()
+    dump = Path(folder, "work", "tools", "dump-topic")
+    dump.write_text(f'#!/bin/bash\nexec python3 "{TOP}/tools/dump-topic" "$@"\n')
+    for script in (kcat, dump):
+        script.chmod(0o755)
 
 
 def check(page, programs):

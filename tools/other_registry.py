@@ -31,14 +31,20 @@ class OtherRegistry:
     """The registry and its server. `faults` is how many of a thousand requests go wrong, in one of three ways. With a certificate
     and its key it speaks TLS."""
 
-    def __init__(self, faults=0, seed=1, has_level=True, certificate=None):
+    def __init__(self, faults=0, seed=1, has_level=True, certificate=None, is_served=True):
         self.subjects, self.levels, self.modes = {}, {}, {}
         if has_level:
             self.levels[None] = {"compatibilityLevel": "BACKWARD"}
         self.greatest = 0
+        self.marked = None   # new ids up to it are refused, once it is set: as this repository's registry does after a start
         self.repeats = []   # registrations that came although they stood already
         self.authorization = None   # the field that requests have to have
+        self.proxy_fields = set()   # those that came for a proxy
         self.faults, self.random, self.lock = faults, random.Random(seed), threading.Lock()
+        if is_served:
+            self.serve(certificate)
+
+    def serve(self, certificate):
         self.server = ThreadingHTTPServer(("127.0.0.1", 0), Handler)
         self.server.registry, self.server.daemon_threads = self, True
         if certificate:
@@ -56,6 +62,23 @@ class OtherRegistry:
         """Puts a version there without a request."""
         self.subjects.setdefault(subject, {})[number] = entry
         self.greatest = max(self.greatest, entry.id)
+
+    def start_again(self):
+        self.marked = self.greatest
+
+    def answer(self, method, path, body=None):
+        """The status and the body of the answer to a request."""
+        target = urlsplit(path)
+        query = {name: values[-1] for name, values in parse_qs(target.query).items() if values[-1] != "false"}
+        given = [json.loads(body)] if body else []
+        for known, pattern, name in ROUTES:
+            match = pattern.fullmatch(target.path)
+            if match and known == method:
+                try:
+                    return 200, getattr(self, name)(query, *given, *map(unquote, match.groups()))
+                except Refusal as refusal:
+                    return refusal.status, refusal.body
+        return 404, {"error_code": 404, "message": "HTTP 404 Not Found"}
 
     # What requests ask; each has the parts of its path, the query and the body.
 
@@ -114,6 +137,9 @@ class OtherRegistry:
             for entry in entries.values():
                 if entry.id == body["id"] and parsed(entry.schema) != parsed(body["schema"]):
                     raise Refusal(422, 42205, f"Overwrite new schema with id {body['id']} is not permitted.")
+        ids = {entry.id for entries in self.subjects.values() for entry in entries.values()}
+        if self.marked is not None and body["id"] not in ids and body["id"] <= self.marked:
+            raise Refusal(422, 42205, "Operation not permitted: id is not above the mark")
         if standing and not standing.deleted:
             self.repeats.append((subject, number))
 
@@ -127,6 +153,7 @@ class OtherRegistry:
             raise Refusal(404, 40406 if entry.deleted else 40407, f"Subject '{subject}' Version {number} {words}")
         if query.get("permanent"):
             del entries[int(number)]
+            self.marked = None if self.marked is None else self.greatest
         entry.deleted = True
         if all(entry.deleted for entry in entries.values()):
             self.levels.pop(subject, None)
@@ -165,6 +192,11 @@ class OtherRegistry:
         if body["mode"] == "IMPORT" and not query.get("force") and self.subjects:
             raise Refusal(422, 42205, "Cannot import since found existing subjects")
         self.modes[subject] = body["mode"]
+        return body
+
+    def clear_mode(self, query, subject):
+        body = self.show_mode(query, subject)
+        del self.modes[subject]
         return body
 
     def mode_in_force(self, subject):
@@ -228,7 +260,8 @@ ROUTES = [(method, re.compile(path), name) for method, path, name in (
     ("DELETE", "/subjects/([^/]+)", "delete_subject"), ("DELETE", "/subjects/([^/]+)/versions/([0-9]+)", "delete_version"),
     ("GET", "/config", "show_level"), ("GET", "/config/([^/]+)", "show_level"), ("PUT", "/config", "set_level"),
     ("PUT", "/config/([^/]+)", "set_level"), ("DELETE", "/config/([^/]+)", "clear_level"), ("GET", "/mode", "show_mode"),
-    ("GET", "/mode/([^/]+)", "show_mode"), ("PUT", "/mode", "set_mode"), ("PUT", "/mode/([^/]+)", "set_mode"))]
+    ("GET", "/mode/([^/]+)", "show_mode"), ("PUT", "/mode", "set_mode"), ("PUT", "/mode/([^/]+)", "set_mode"),
+    ("DELETE", "/mode/([^/]+)", "clear_mode"))]
 
 
 class Handler(BaseHTTPRequestHandler):
@@ -242,29 +275,17 @@ class Handler(BaseHTTPRequestHandler):
     def serve(self):
         registry = self.server.registry
         body = self.rfile.read(int(self.headers.get("Content-Length") or 0))
+        registry.proxy_fields.add(self.headers.get("Proxy-Authorization"))
         if self.headers.get("Authorization") != registry.authorization:
             self.answer(401, {"error_code": 401, "message": "Unauthorized"})
             return
         with registry.lock:
             fault = registry.random.choice(("away", "unread", "lost")) if registry.random.randrange(1000) < registry.faults else None
-            status, answer = self.answer_to(body) if fault in (None, "lost") else (503, {"error_code": 503, "message": "Service Unavailable"})
+            status, answer = registry.answer(self.command, self.path, body) if fault in (None, "lost") else (503, {"error_code": 503, "message": "Service Unavailable"})
         if fault in ("unread", "lost"):
             self.close_connection = True
         else:
             self.answer(status, answer)
-
-    def answer_to(self, body):
-        target = urlsplit(self.path)
-        query = {name: values[-1] for name, values in parse_qs(target.query).items() if values[-1] != "false"}
-        given = [json.loads(body)] if body else []
-        for method, path, name in ROUTES:
-            match = path.fullmatch(target.path)
-            if match and method == self.command:
-                try:
-                    return 200, getattr(self.server.registry, name)(query, *given, *map(unquote, match.groups()))
-                except Refusal as refusal:
-                    return refusal.status, refusal.body
-        return 404, {"error_code": 404, "message": "HTTP 404 Not Found"}
 
     def answer(self, status, body):
         data = json.dumps(body).encode()

@@ -1,262 +1,24 @@
-"""What the tools of this folder share: registries that are asked over HTTP or in a log, what they hold, and how two of them differ.
+"""What the tools of this folder share: how a registry is named on a command line, what it holds, and how two of them differ.
 
-It needs Python 3.9 or later, and `requests`. Nothing here is proved: what the tools claim rests on the answers of the registries."""
+It needs Python 3.9 or later, and nothing else. Nothing here is proved: what the tools claim rests on the answers of the registries."""
+import functools
 import json
 import os
-import re
-import subprocess
 import sys
 import time
 from dataclasses import dataclass, field
-from typing import NamedTuple, Optional
-from urllib.parse import quote, urlsplit
+from typing import NamedTuple
+from urllib.parse import urlsplit
 
-import requests
+from asking import Printed, RegistryError, get, part, shown
+from http_registry import PATIENCE, Access, HttpRegistry
+from log_registry import LogRegistry
 
 GREATEST = 2**31 - 1        # of versions and of ids
-MEDIA_TYPE = "application/vnd.schemaregistry.v1+json"
-AWAY = (429, 502, 503, 504)  # statuses of a registry, or of a proxy before it, that doesn't answer now
-PATIENCE = 60               # seconds for which a registry that is away is asked again, unless the command line says otherwise
-FOLD_LIMIT = 65536          # requests that one fold serves
 
 # Members of a version and of a level's answer that change what it means, and in which words they are told.
 VERSION_EXTRAS = {"metadata": "metadata", "ruleSet": "rules"}
 LEVEL_EXTRAS = ("alias", "normalize", "compatibilityGroup", "defaultMetadata", "overrideMetadata", "defaultRuleSet", "overrideRuleSet")
-
-
-class RegistryError(Exception):
-    """A registry that can't be asked, or that doesn't answer as a registry does. The text is for the person at the terminal."""
-
-
-class NoAnswer(Exception):
-    """A request that wasn't answered. It can't be known whether the registry carried it out."""
-
-    def __init__(self, text, pause=0.0):
-        super().__init__(text)
-        self.pause = pause   # seconds that the registry asks to be left alone
-
-
-class Request(NamedTuple):
-    method: str
-    path: str
-    body: Optional[dict] = None
-
-
-class Answer(NamedTuple):
-    status: int
-    body: object
-
-    @property
-    def is_ok(self):
-        return self.status == 200
-
-    @property
-    def is_missing(self):
-        return self.status == 404
-
-    @property
-    def code(self):
-        """The registry's own code of a refusal, as 40401, or the status."""
-        return self.body.get("error_code", self.status) if isinstance(self.body, dict) else self.status
-
-    def reason(self):
-        """What a refusal says, in one line."""
-        message = self.body.get("message", "") if isinstance(self.body, dict) else ""
-        code = self.code if isinstance(self.code, int) else self.status
-        return " ".join(f"{code} {message}".split())
-
-
-def get(path):
-    return Request("GET", path)
-
-
-def part(text):
-    """A subject as one part of a path."""
-    return quote(text, safe="")
-
-
-def to_json(value):
-    """UTF-8; half a surrogate pair gives bytes that a registry refuses, and not an exception here."""
-    return json.dumps(value, ensure_ascii=False).encode("utf-8", "surrogatepass")
-
-
-def shown(text):
-    """A name as it stands, or as a JSON string where it would break the line or couldn't be printed. What should be a name and isn't is JSON."""
-    return text if isinstance(text, str) and text.isprintable() and text and '"' not in text else json.dumps(text)
-
-
-def number_in(body, member):
-    """A member that is a number, or None."""
-    value = body.get(member)
-    return value if isinstance(value, int) and not isinstance(value, bool) else None
-
-
-class Printed:
-    """A stream for a terminal. What a registry sent may have characters that steer one, and those are written as escapes."""
-
-    def __init__(self, stream):
-        self.stream = stream
-
-    def __getattr__(self, name):
-        return getattr(self.stream, name)
-
-    def write(self, text):
-        return self.stream.write("".join(it if it.isprintable() or it == "\n" else it.encode("unicode_escape").decode() for it in text))
-
-
-# Registries
-
-class HttpRegistry:
-    """A registry at a URL. Requests are sent again while it is away, for `patience` seconds."""
-
-    def __init__(self, name, url, patience=PATIENCE, rate=None):
-        self.name, self.url, self.patience = name, url.rstrip("/"), patience
-        self.interval = 1 / rate if rate else 0.0
-        self.next_turn = 0.0
-        self.session = session_for(self.url)
-
-    def ask(self, request, is_done=None):
-        """The answer. Where none came, `is_done` looks whether the request was carried out before it is sent again;
-        then the answer is an empty one with the status 200. A request without `is_done` is one that may be sent twice."""
-        begun, pause = time.monotonic(), 0.1
-        while True:
-            try:
-                return self._send(request)
-            except NoAnswer as fault:
-                self._wait(fault, begun, max(pause, fault.pause))
-            pause = min(2 * pause, 5.0)
-            if is_done and is_done():
-                return Answer(200, None)
-
-    def _wait(self, fault, begun, pause):
-        """Waits before a request is sent again, if there is patience left."""
-        if time.monotonic() + pause > begun + self.patience:
-            raise RegistryError(f"{self.name} doesn't answer at {self.url}: {fault}") from None
-        if pause > 2:
-            print(f"{self.name} doesn't answer at {self.url}: {fault}; asking again", file=sys.stderr, flush=True)
-        time.sleep(pause)
-
-    def ask_all(self, requests_):
-        """The answers in the order of the requests, each sent once the one before it is answered."""
-        return (self.ask(request) for request in requests_)
-
-    def _send(self, request):
-        self._wait_for_turn()
-        data = None if request.body is None else to_json(request.body)
-        headers = {} if data is None else {"Content-Type": MEDIA_TYPE}
-        try:
-            response = self.session.request(request.method, self.url + request.path, data=data, headers=headers,
-                                            timeout=(10, 60), allow_redirects=False)
-        except requests.exceptions.SSLError as fault:
-            raise RegistryError(f"{self.name} at {self.url}: {fault}") from None
-        except (requests.ConnectionError, requests.Timeout, requests.exceptions.ChunkedEncodingError) as fault:
-            raise NoAnswer(cause_of(fault)) from None
-        except requests.RequestException as fault:
-            raise RegistryError(f"{self.name} can't be asked: {fault}") from None
-        return self._answer_in(response)
-
-    def _answer_in(self, response):
-        status = response.status_code
-        if status in AWAY:
-            after = response.headers.get("Retry-After", "")
-            raise NoAnswer(f"status {status}", float(after) if after.isascii() and after.isdigit() else 0.0)
-        if 300 <= status < 400:
-            raise RegistryError(f"{self.name} sends on to {shown(response.headers.get('Location'))}; give that URL")
-        try:
-            answer = Answer(status, json.loads(response.content))
-        except ValueError:
-            answer = Answer(status, None)
-        if status in (401, 403) or status >= 500:
-            raise RegistryError(f"{self.name} refuses: {answer.reason()}")
-        if status == 200 and answer.body is None:
-            raise RegistryError(f"{self.name} at {self.url} answers something that isn't JSON; is it a registry?")
-        return answer
-
-    def _wait_for_turn(self):
-        """Keeps the rate, where there is one."""
-        if self.interval:
-            now = time.monotonic()
-            time.sleep(max(0.0, self.next_turn - now))
-            self.next_turn = max(now, self.next_turn) + self.interval
-
-
-def session_for(url):
-    """A session with what the environment says of proxies, passwords and authorities, which is read once, and not for each request."""
-    session = requests.Session()
-    session.trust_env = False
-    session.proxies = requests.utils.get_environ_proxies(url)
-    session.auth = requests.utils.get_netrc_auth(url)
-    session.verify = os.environ.get("REQUESTS_CA_BUNDLE") or True
-    session.headers["Accept"] = f"{MEDIA_TYPE}, application/json"
-    return session
-
-
-def cause_of(fault):
-    """The end of what `requests` says of a fault, which names the cause."""
-    return str(fault).rsplit(": ", 1)[-1].strip("()'\" ")
-
-
-class LogRegistry:
-    """The registry that a log says, which `registryd fold` asks. The log is only read."""
-
-    def __init__(self, name, path, program):
-        self.name, self.path, self.program = name, path, program
-        self.log = lines_of_log(path)
-
-    def ask(self, request, is_done=None):
-        return next(self.ask_all([request]))
-
-    def ask_all(self, requests_):
-        """The answers in the order of the requests. A request that closes its connection ends a fold; the next one goes on behind it."""
-        rest = list(requests_)
-        while rest:
-            answers = self._fold(rest[:FOLD_LIMIT])
-            if not answers:
-                raise RegistryError(f"{self.path}: {self.program} answered nothing")
-            yield from answers
-            rest = rest[len(answers):]
-
-    def _fold(self, requests_):
-        text = self.log + b"\n" + b"".join(map(request_bytes, requests_))
-        try:
-            done = subprocess.run([self.program, "fold"], input=text, capture_output=True, check=False)
-        except OSError as fault:
-            raise RegistryError(f"{self.program} can't be run: {fault.strerror}") from None
-        if done.returncode != 0:
-            told = done.stderr.decode(errors="replace").strip()
-            raise RegistryError(f"{self.path}: {told or f'status {done.returncode}'}")
-        return list(answers_in(done.stdout))
-
-
-def lines_of_log(path):
-    """A log's bytes up to its first empty line, behind which nothing counts."""
-    try:
-        with open(path, "rb") as file:
-            data = file.read()
-    except OSError as fault:
-        raise RegistryError(f"{path}: {fault.strerror}") from None
-    if data.startswith(b"\n"):
-        return b""
-    end = data.find(b"\n\n")
-    if end < 0 and data and not data.endswith(b"\n"):
-        raise RegistryError(f"{path}: its last line has no end")
-    return data if end < 0 else data[:end + 1]
-
-
-def request_bytes(request):
-    body = b"" if request.body is None else to_json(request.body)
-    return f"{request.method} {request.path} HTTP/1.1\r\nHost: log\r\nContent-Length: {len(body)}\r\n\r\n".encode() + body
-
-
-def answers_in(output):
-    """The responses that a fold wrote, one behind the other."""
-    start = 0
-    while start < len(output):
-        end = output.index(b"\r\n\r\n", start) + 4
-        head = output[start:end].decode("ascii")
-        length = int(re.search(r"\r\nContent-Length: (\d+)\r\n", head).group(1))
-        yield Answer(int(head.split()[1]), json.loads(output[end:end + length]))
-        start = end + length
 
 
 # The command line
@@ -289,16 +51,6 @@ def add_common(parser):
     parser.add_argument("--quiet", action="store_true", help="don't say on standard error how far it is")
 
 
-def add_registryd(parser):
-    parser.add_argument("--registryd", metavar="PROGRAM", default=default_registryd(),
-                        help="the program that reads logs (out/registryd of this repository, else registryd on the path)")
-
-
-def default_registryd():
-    built = os.path.join(os.path.dirname(os.path.dirname(os.path.realpath(__file__))), "out", "registryd")
-    return built if os.access(built, os.X_OK) else "registryd"
-
-
 def positive(text):
     value = float(text)
     if not 0 < value < float("inf"):
@@ -310,18 +62,17 @@ def http_registry(name, role, url, options):
     """The registry at a URL, asked as the options and the environment say."""
     if not is_url(url) or not urlsplit(url).hostname:
         raise RegistryError(f"{shown(url)} is no URL of a registry, as http://localhost:8081 is one")
+    try:
+        is_right = urlsplit(url).port != 0
+    except ValueError:
+        is_right = False
+    if not is_right:
+        raise RegistryError(f"{shown(url)} has no port from 1 to 65535")
     if urlsplit(url).username is not None:
         raise RegistryError(f"a password has no place in a URL; give it as {variable(role, 'USER')} and {variable(role, 'PASSWORD')}")
-    registry = HttpRegistry(name, url, options.patience, options.rate)
-    user = os.environ.get(variable(role, "USER"))
-    if user is not None:
-        registry.session.auth = (user, os.environ.get(variable(role, "PASSWORD"), ""))
-    authorities, certificate, key = (getattr(options, f"{role}_{what}".lstrip("_")) for what in ("ca", "cert", "key"))
-    if authorities:
-        registry.session.verify = authorities
-    if certificate:
-        registry.session.cert = (certificate, key) if key else certificate
-    return registry
+    files = [getattr(options, f"{role}_{what}".lstrip("_")) for what in ("ca", "cert", "key")]
+    access = Access(os.environ.get(variable(role, "USER")), os.environ.get(variable(role, "PASSWORD"), ""), *files)
+    return HttpRegistry(name, url, options.patience, options.rate, access)
 
 
 def any_registry(name, role, place, options):
@@ -498,9 +249,14 @@ class Difference(NamedTuple):
 
 def meaning(schema):
     """A schema's text as JSON, in one spelling: members in order, no spaces. A text that isn't JSON is what it is."""
+    return respelled(schema) if isinstance(schema, str) else schema
+
+
+@functools.lru_cache(maxsize=65536)
+def respelled(schema):
     try:
         return json.dumps(json.loads(schema), sort_keys=True)
-    except (ValueError, RecursionError, TypeError):
+    except (ValueError, RecursionError):
         return schema
 
 

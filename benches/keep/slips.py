@@ -11,7 +11,7 @@ While the program runs the file is
 `copy`         replaced by a copy of itself     `appended`   written to by another program
 `restore`      replaced by an older copy        `emptied`    emptied by the shell, as by `compact log > log`
 `overwritten`  written over by an older copy, by `cp`
-`copied`       emptied, and the process, which answers lookups, copied by tools/copy-registry (wants Python's `requests`)
+`copied`       emptied, and the process, which answers lookups, copied by tools/copy-registry
 `compaction`   replaced right before a compaction, which must not write over the other file
 `uncompacted`  appended to by another program, after a compaction found no room
 `unlocked`     served by a second process, after its lock was removed
