@@ -113,14 +113,18 @@ impl<S: Read + Drop> Read for HeardInput<S> {
 
 /// Tells the operator of each 30 s in which nothing was read, until the ports listen.
 fn tell_silences<R: Clock + Eprint + Drop>(rt: R, reads: Arc<AtomicU64>, board: SharedBoard) {
-    let (mut heard, mut seconds) = (0, 0);
+    let (mut heard, mut seconds) = (0, 0u64);
     for _second in 0..u64::MAX {
         thread::sleep(&rt, Duration::from_secs(1));
         if board.marks.listens.is_set() {
             return;
         }
         let now = reads.load(Ordering::SeqCst);
-        seconds = if now == heard { seconds + 1 } else { 0 };
+        seconds = if now == heard {
+            seconds.saturating_add(1)
+        } else {
+            0
+        };
         heard = now;
         if seconds >= SILENT_FOR {
             let _told = rt.eprintln("the adapter has said nothing for 30 s: is its store there?");
