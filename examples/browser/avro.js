@@ -97,15 +97,18 @@ function withLogical(type) {
   return typeof logical === "string" ? `${type.kind} (${logical})` : type.kind;
 }
 
-/** What stands under a type: parts with a `name`, and a `type` unless they are an enum's symbols. */
+/**
+ * What stands under a type: parts with a `name`, and a `type` unless they are an enum's symbols. The name of an `isPlace` is none that the
+ * schema gives.
+ */
 export function parts(type) {
   switch (type.kind) {
     case "use": return type.target ? parts(type.target) : [];
     case "record": return type.fields;
     case "enum": return type.symbolParts;
-    case "array": return [{ name: "items", type: type.items }];
-    case "map": return [{ name: "values", type: type.values }];
-    case "union": return type.branches.map((branch, number) => ({ name: `branch ${number}`, type: branch }));
+    case "array": return [{ name: "items", type: type.items, isPlace: true }];
+    case "map": return [{ name: "values", type: type.values, isPlace: true }];
+    case "union": return type.branches.map((branch, number) => ({ name: `branch ${number}`, type: branch, isPlace: true }));
     default: return [];
   }
 }

@@ -11,6 +11,31 @@ export function differences(before, after) {
   return comparison.rows;
 }
 
+const KINDS = [["-", "field", "removed"], ["-", "symbol", "removed"], ["+", "field", "added"], ["+", "symbol", "added"], ["~", "type", "changed"]];
+const NAMED_PLACES = 5; // places that a sum names
+
+/**
+ * The rows in a few sums, what is lost first: each has `words`, such as "1 field removed", the `places` in words, and whether something is
+ * `lost`.
+ */
+export function sumsOf(rows) {
+  const kindOf = (row) => KINDS.find(([sign, what]) => sign === row.sign && what === row.what);
+  const sums = KINDS.map((kind) => {
+    const [sign, what, done] = kind;
+    const placeOf = ({ where, from, to }) => (what === "symbol" ? [where, from ?? to].filter(Boolean).join(" ") : where);
+    return { ...sumOf(rows.filter((row) => kindOf(row) === kind), what, done, placeOf), lost: sign === "-" };
+  });
+  const others = sumOf(rows.filter((row) => !kindOf(row)), "other change", "", ({ where, what }) => (where ? `${where}: ${what}` : what));
+  return [...sums, { ...others, lost: false }].filter(({ count }) => count > 0);
+}
+
+function sumOf(rows, what, done, placeOf) {
+  const places = rows.map(placeOf).filter(Boolean);
+  const more = places.length > NAMED_PLACES ? " and others" : "";
+  const words = `${rows.length} ${what}${rows.length === 1 ? "" : "s"} ${done}`.trim();
+  return { count: rows.length, words, places: places.slice(0, NAMED_PLACES).join(", ") + more };
+}
+
 class Comparison {
   rows = [];
   seen = new Map(); // which types were compared with which, so that a type inside itself ends
@@ -28,7 +53,7 @@ class Comparison {
   compareInside(where, before, after) {
     if (this.seen.get(after)?.has(before)) return;
     this.seen.set(after, (this.seen.get(after) ?? new Set()).add(before));
-    this.compareSaid(where, before, after);
+    this.compareSaid(where, before, after, after.kind);
     if (after.kind === "record") this.compareFields(where, before, after);
     if (after.kind === "enum") this.compareSymbols(where, before, after);
     if (after.kind === "fixed") this.change(where, "size", before.size, after.size, before, after);
@@ -71,10 +96,12 @@ class Comparison {
     for (const it of before.symbolParts) if (!young.has(it.name)) this.rows.push({ sign: "-", where, what: "symbol", from: it.name, old: it });
   }
 
-  compareSaid(where, before, after) {
+  /** An enum's default isn't that of the field: its `kind` says so. */
+  compareSaid(where, before, after, kind) {
     const [old, young] = [new Map(before.said), new Map(after.said)];
     for (const member of new Set([...old.keys(), ...young.keys()])) {
-      this.change(where, member, written(old, member), written(young, member), before, after);
+      const what = kind === "enum" && member === "default" ? "enum's default" : member;
+      this.change(where, what, written(old, member), written(young, member), before, after);
     }
     this.change(where, "aliases", namesOrNone(before.aliases), namesOrNone(after.aliases), before, after);
   }

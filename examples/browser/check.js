@@ -7,6 +7,8 @@ import { signal } from "./state.js";
 import { drawTree } from "./tree.js";
 import { inWords, lose } from "./waiting.js";
 
+const unanswered = new Set(); // forms whose last check had no answer, since the registry was away
+
 /**
  * Builds the form in `place`. `about` has `subject()`, the subject that is asked about, `link(form)`, the address of a check, and may
  * have `registering(form)`, which is called for the button that registers, and `against`, whether there is a choice of versions.
@@ -25,13 +27,15 @@ export function makeCheckForm(place, about) {
     "",
     () => {
       put(layOutIfJson(form.kept));
-      schema.focus();
-      schema.setSelectionRange(0, 0);
+      schema.setSelectionRange(0, 0); // first, or the browser brings the caret's old place into sight
+      schema.focus({ preventScroll: true });
+      schema.scrollTop = 0;
+      schema.scrollIntoView({ block: "nearest" });
     },
     { hidden: true },
   );
   if (about.registering) buttons.append(button("Register…", () => about.registering(form), { "data-asks": true }));
-  buttons.append(button("Indent", () => put(layOutIfJson(schema.value))), copyButton("Copy link", () => about.link(form)));
+  buttons.append(button("Indent", () => put(layOutIfJson(schema.value))), copyButton("Copy link", () => about.link(form), "Copy link to this check"));
   const above = element("div", { class: "buttons" }, form.begin);
   const fields = element("form", {}, above, labelled("New schema, as JSON", schema), about.against && labelled("Compare with", against), buttons);
   schema.addEventListener("input", () => markOld(form));
@@ -52,14 +56,28 @@ export async function check(form, against = form.against.value) {
     const answer = await mayFollow(name, schema, against, given);
     if (answer.is_compatible) tell(form, "yes", element("b", {}, "Compatible."), " ", form.about.yes?.(against) ?? "");
     else await tellClash(form, answer.messages?.[0] ?? "", name, schema, given);
-    form.verdict.scrollIntoView({ block: answer.is_compatible ? "nearest" : "start" });
+    showVerdict(form, schema, answer.is_compatible ? "nearest" : "start");
     return answer.is_compatible;
   } catch (error) {
     if (given.aborted) return false;
-    if (error instanceof Away) lose(error);
     tell(form, "no", ...wordsOf(error, schema));
+    showVerdict(form, schema, "nearest");
+    if (error instanceof Away) {
+      unanswered.add(form);
+      lose(error);
+    }
     return false;
   }
+}
+
+function showVerdict(form, schema, block) {
+  if (form.schema.value !== schema) markOld(form); // somebody typed meanwhile
+  form.verdict.scrollIntoView({ block });
+}
+
+/** Once the registry is back, a check that had no answer is to be made again, and what was said of it is over. */
+export function tellUnanswered() {
+  for (const form of unanswered) tell(form, "", "The registry didn't answer, and is back now: check again.");
 }
 
 async function tellClash(form, message, name, schema, given) {
@@ -69,13 +87,16 @@ async function tellClash(form, message, name, schema, given) {
 
 function tell(form, kind, ...words) {
   form.verdict.className = `verdict ${kind}`;
+  form.clash.classList.remove("old");
+  unanswered.delete(form);
   form.verdict.replaceChildren(...words);
 }
 
-/** A verdict on a text that was changed since stays, and says so. */
-function markOld({ verdict }) {
-  if (verdict.textContent === "" || verdict.classList.contains("old")) return;
+/** A verdict on a text that was changed since stays, and says so; with what was drawn of a clash it turns pale. */
+function markOld({ verdict, clash }) {
+  if (!verdict.matches(".yes, .no") || verdict.classList.contains("old")) return;
   verdict.classList.add("old");
+  clash.classList.add("old");
   verdict.append(element("p", { class: "fact" }, "This was said of the text before it was changed."));
 }
 

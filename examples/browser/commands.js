@@ -1,10 +1,12 @@
 // What changes the registry. Each command is behind a question, and the registry judges.
 import { addressOf } from "./address.js";
+import { readSchema } from "./avro.js";
+import { differences, sumsOf } from "./changes.js";
 import { check, clearVerdict, drawClash, wordsOf } from "./check.js";
 import { button, by, choiceOf, element, text } from "./elements.js";
 import { LEVELS, MODES } from "./levels.js";
 import { askQuestion } from "./question.js";
-import { getDefaults, getInForce, listSubjects, listVersions, register, remove, setRule, versionsOfId } from "./registry.js";
+import { getDefaults, getInForce, getVersion, listSubjects, listVersions, register, remove, setRule, versionsOfId } from "./registry.js";
 import { liveVersions, nextVersion, registry, shown, signal } from "./state.js";
 import { trying } from "./waiting.js";
 
@@ -18,9 +20,9 @@ let refresh; // shows everything anew
 
 export function prepareCommands(refreshAll) {
   refresh = refreshAll;
-  const all = (kind, what) => button(`Change ${what}…`, () => changeRule(kind), { "data-asks": true });
+  const all = (kind) => asking(`Change ${kind}…`, () => changeRule(kind), false, `Change ${kind}… for all subjects`);
   by("defaults-tools").hidden = true; // until it is known what holds now
-  by("defaults-tools").replaceChildren(all("level", "level"), " ", all("mode", "mode"));
+  by("defaults-tools").replaceChildren(all("level"), " ", all("mode"));
   by("list-tools").replaceChildren(element("a", { href: addressOf({ new: "" }), class: "button", id: "new-subject" }, "New subject"));
 }
 
@@ -56,20 +58,40 @@ export async function registerFrom(form) {
   await trying(async () => {
     const before = await versionsNow(subject);
     const next = Math.max(0, ...before.map((it) => it.number)) + 1;
+    const changes = await wordsOfChanges(subject, before, schema);
     askQuestion({
       title: ["Register this schema in ", name(subject), "?"],
       words: [
         words(before.length === 0 ? "It makes a new subject, and is its version 1." : `It is compatible, and becomes version ${next}.`),
+        ...changes,
         words("If the subject has this schema already, nothing is written, and you are told its version."),
       ],
       yes: "Register",
-      work: () => registerAndShow(subject, schema, before),
+      work: async () => {
+        const done = await registerAndShow(subject, schema, before);
+        clearVerdict(form); // it was said of what is done now
+        return done;
+      },
       refused: (error) => {
         clearVerdict(form);
         return wordsOfConflict(error, subject, schema);
       },
     });
   });
+}
+
+/** What changes against the latest version: who started from an older one sees what would be lost. */
+async function wordsOfChanges(subject, before, schema) {
+  const latest = before.findLast((it) => !it.deleted)?.number;
+  if (latest === undefined) return [];
+  const kept = await getVersion(subject, latest, signal());
+  const sums = sumsOf(differences(readSchema(kept.schema), readSchema(schema)));
+  const told = sums.flatMap(({ words: sum, places, lost }, place) => [
+    place === 0 ? "" : ", ",
+    lost ? element("b", { class: "lost" }, sum) : sum,
+    ...(places ? [" (", text(places), ")"] : []),
+  ]);
+  return [words(`Against version ${latest}, the latest: `, ...(sums.length === 0 ? ["nothing changed"] : told), ".")];
 }
 
 async function registerAndShow(subject, schema, before) {
@@ -243,12 +265,12 @@ async function setAndShow(kind, subject, value) {
 
 // ---- buttons
 
-const asking = (label, action, danger) => button(label, action, { "data-asks": true, class: danger && "danger" });
+const asking = (label, action, danger, name) => button(label, action, { "data-asks": true, class: danger && "danger", "aria-label": name });
 
 export function subjectTools() {
   const { subject } = shown;
   const end = liveVersions().length > 0 ? ["Delete subject…", deleteSubject] : ["Delete subject for good…", deleteSubjectForGood];
-  const rule = (kind) => asking(`Change ${kind}…`, () => changeRule(kind, subject));
+  const rule = (kind) => asking(`Change ${kind}…`, () => changeRule(kind, subject), false, `Change ${kind}… of this subject`);
   return [rule("level"), rule("mode"), asking(...end, true)];
 }
 

@@ -39,7 +39,8 @@ function tell(words) {
 function drawForms(form) {
   by("subject-body").dataset.form = form;
   const keep = by("forms").contains(document.activeElement);
-  by("forms").replaceChildren(choiceOf("Show", "form", FORMS, form, (as) => goTo({ as })), copyButton("Copy link", comparisonLink));
+  const link = copyButton("Copy link", comparisonLink, "Copy link to this comparison");
+  by("forms").replaceChildren(choiceOf("Show", "form", FORMS, form, (as) => goTo({ as })), link);
   if (keep) by("forms").querySelector(":checked")?.focus();
 }
 

@@ -38,15 +38,15 @@ export function choiceOf(legend, name, options, value, chosen) {
   return element("fieldset", { class: "choices" }, element("legend", {}, legend), ...options.map(one));
 }
 
-/** A button that copies what `make` gives, and says so beside itself. */
-export function copyButton(words, make) {
+/** A button that copies what `make` gives, and says so beside itself. Where the page has several, `name` tells them apart. */
+export function copyButton(words, make, name) {
   const told = element("span", { class: "told", role: "status" });
   const copy = async () => {
     const string = make();
     if (string === undefined) return say(told, "Too long for a link.");
     say(told, (await putOnClipboard(string)) ? "Copied." : "The browser doesn't allow copying.");
   };
-  return element("span", { class: "copy" }, button(words, copy), told);
+  return element("span", { class: "copy" }, button(words, copy, { "aria-label": name }), told);
 }
 
 function say(told, words) {

@@ -50,7 +50,7 @@ function versionRow({ subject, version, deleted }) {
   return element("li", {}, link);
 }
 
-by("identity-tools").append(copyButton("Copy link", () => linkOf({ id })));
+by("identity-tools").append(copyButton("Copy link", () => linkOf({ id }), "Copy link to this schema id"));
 by("find-identity").addEventListener("submit", (event) => {
   event.preventDefault();
   const address = addressOf({ id: by("identity-number").value.trim() });

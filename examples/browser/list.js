@@ -42,7 +42,7 @@ function showPage(first) {
   by("shown").textContent = page.length === 0 ? "No subjects" : `${from} to ${to} of ${all}`;
   showEmpty(page.length === 0);
   markCurrent();
-  if (focused) [...document.querySelectorAll("#subjects a")].find((it) => it.getAttribute("href") === focused)?.focus();
+  if (focused) links().find((it) => it.getAttribute("href") === focused)?.focus();
 }
 
 /** Why nothing is in the list, and what to do then. */
@@ -70,10 +70,18 @@ function subjectRow({ name, deleted }) {
 export function markCurrent() {
   const { subject } = readAddress();
   const current = subject === undefined ? undefined : addressOf({ subject });
-  for (const link of document.querySelectorAll("#subjects a")) {
+  for (const link of links()) {
     if (link.getAttribute("href") === current) link.setAttribute("aria-current", "true");
     else link.removeAttribute("aria-current");
   }
+  makeStop(links().find((it) => it === document.activeElement) ?? document.querySelector("#subjects a[aria-current]") ?? links()[0]);
+}
+
+const links = () => [...document.querySelectorAll("#subjects a")];
+
+/** Of the list the Tab key stops at one subject alone: where the keys were last, or else at the chosen one. */
+function makeStop(link) {
+  for (const it of links()) it.tabIndex = it === link ? 0 : -1;
 }
 
 /** Brings the subject that is chosen into sight, wherever it is in the list. */
@@ -83,25 +91,29 @@ export function bringIntoSight() {
   if (place >= 0 && (place < list.first || place >= list.first + PAGE)) showPage(place - (place % PAGE));
   markCurrent();
   const link = document.querySelector("#subjects a[aria-current]");
-  const side = by("list");
+  const side = by("subjects");
   if (!link || side.scrollHeight <= side.clientHeight) return;
   const [row, frame] = [link.getBoundingClientRect(), side.getBoundingClientRect()];
-  if (row.top < frame.top || row.bottom > frame.bottom) side.scrollTop += row.top - frame.top - frame.height / 2;
+  const [above, below] = [frame.top - row.top, row.bottom - Math.min(frame.bottom, innerHeight)];
+  if (above > 0) side.scrollTop -= above;
+  else if (below > 0) side.scrollTop += below; // no further than it takes
 }
 
-/** The arrow keys go from the search into the list, and through it. */
-function moveByArrows(event) {
-  const step = { ArrowDown: 1, ArrowUp: -1 }[event.key];
-  if (!step) return;
-  const stops = [by("search"), ...document.querySelectorAll("#subjects a")];
+/** The arrow keys go from the search into the list, and through it; Home and End go to its ends. */
+function moveByKeys(event) {
+  if (event.altKey || event.ctrlKey || event.metaKey) return;
+  const stops = [by("search"), ...links()];
   const place = stops.indexOf(document.activeElement);
-  if (place < 0) return;
+  const ends = place > 0 ? { Home: 1, End: stops.length - 1 } : {}; // in the search they are the text's
+  const next = { ArrowDown: Math.min(place + 1, stops.length - 1), ArrowUp: Math.max(0, place - 1), ...ends }[event.key];
+  if (place < 0 || next === undefined) return;
   event.preventDefault();
-  stops[Math.max(0, Math.min(place + step, stops.length - 1))].focus();
+  stops[next].focus();
 }
 
 by("search").addEventListener("input", () => search(0));
 by("with-deleted").addEventListener("change", () => search(0));
 by("previous").addEventListener("click", () => showPage(list.first - PAGE));
 by("next").addEventListener("click", () => showPage(list.first + PAGE));
-by("list").addEventListener("keydown", moveByArrows);
+by("list").addEventListener("keydown", moveByKeys);
+by("subjects").addEventListener("focusin", ({ target }) => makeStop(target));

@@ -1,5 +1,6 @@
 // The page: what is chosen is behind the # of its address, and is shown.
 import { readAddress } from "./address.js";
+import { tellUnanswered } from "./check.js";
 import { prepareCommands, registerFrom, subjectTools, versionTools } from "./commands.js";
 import { by } from "./elements.js";
 import { prepareFresh, showFresh } from "./fresh.js";
@@ -8,7 +9,7 @@ import { bringIntoSight, refreshList } from "./list.js";
 import { Away } from "./registry.js";
 import { beginAnew, forget, readSettings, settings } from "./state.js";
 import { prepareSubject, showSubject } from "./subject.js";
-import { lose, onReturn, tellDone, trying } from "./waiting.js";
+import { lose, onReturn, tellBriefly, tellDone, trying } from "./waiting.js";
 
 const OFTEN = 60_000; // milliseconds after which the list is asked for again
 
@@ -35,7 +36,7 @@ async function showChoice(again = false) {
   for (const other of Object.keys(VIEWS)) by(other).hidden = other !== name;
   document.body.classList.toggle("chosen", name !== "nothing");
   document.title = [VIEWS[name].title(choice), settings.name].filter(Boolean).join(" · ");
-  if (!again || choice.subject !== inSight) bringIntoSight();
+  if (choice.subject !== inSight) bringIntoSight(); // another version moves nothing
   inSight = choice.subject;
   await trying(() => VIEWS[name].show(choice, signal, again));
 }
@@ -51,7 +52,7 @@ async function refresh() {
 
 async function refreshAndTell() {
   await refresh();
-  tellDone("The list is up to date.");
+  tellBriefly("The list is up to date.");
 }
 
 /** Once in a while, and when somebody comes back to the page, the list alone. */
@@ -76,7 +77,10 @@ async function start() {
     prepareFresh(registerFrom);
     prepareCommands(refresh);
   }
-  onReturn(refresh);
+  onReturn(() => {
+    tellUnanswered();
+    return refresh();
+  });
   addEventListener("hashchange", showOther);
   by("refresh").addEventListener("click", refreshAndTell);
   by("skip").addEventListener("click", () => by("main").focus());

@@ -41,6 +41,8 @@ export async function showSubject(choice, signal, again) {
   if (other) beginSubject(choice.subject);
   if ((other || again) && !(await loadSubject(choice.subject, signal))) return;
   await showVersion(choice, signal);
+  const isWaitedFor = other && choice.version !== undefined && document.activeElement === by("subject-title");
+  if (isWaitedFor) by("version-title").focus(); // who chose a version goes on from there
   if (choice.check !== undefined && (other || !again)) await openCheck(choice);
 }
 
@@ -160,7 +162,7 @@ function drawVersion({ version, id, schema }) {
   const same = element("a", { href: addressOf({ id }) }, `${id}`);
   by("version-title").replaceChildren(`Version ${version}, schema id `, same, deleted ? ", deleted" : "");
   showSchema({ text: schema, name: `version ${version}`, file: fileOf(shown.subject, "version", version) });
-  const link = copyButton("Copy link", () => linkOf({ subject: shown.subject, version: shown.version }));
+  const link = copyButton("Copy link", () => linkOf({ subject: shown.subject, version: shown.version }), `Copy link to version ${version}`);
   const start = button("Start from this version", () => form.begin.click());
   by("version-tools").replaceChildren(start, link, ...tools.version());
   form.kept = schema;

@@ -89,8 +89,8 @@ function drawPiece(group, type, below, way, drawing) {
 // ---- words
 
 function titleOf(part, here, { marks }) {
-  const { name, type } = part;
-  const title = name === undefined ? [] : [element("b", {}, text(name))];
+  const { name, type, isPlace } = part;
+  const title = name === undefined ? [] : [element(isPlace ? "span" : "b", {}, text(name))];
   if (type) title.push(name === undefined ? "" : ": ", element("span", { class: "type" }, text(label(type))));
   const mark = here ? { kind: "broken" } : markOf(part, marks);
   const words = element(mark ? "mark" : "span", { class: mark?.kind }, ...title);
@@ -100,13 +100,20 @@ function titleOf(part, here, { marks }) {
 /** What else is said of a field and of its type: documentation, defaults, aliases and whatever was added. */
 function factsOf({ type, said = [], aliases = [] }) {
   const names = [...aliases, ...(type?.aliases ?? [])];
-  const facts = [...said, ...(type?.said ?? []).filter(([member]) => member !== "logicalType")].map(factOf);
+  const ofType = (type?.said ?? []).filter(([member]) => member !== "logicalType");
+  const facts = [...factsOfBoth(said, ofType, "field"), ...factsOfBoth(ofType, said, type?.kind)];
   return names.length === 0 ? facts : [...facts, element("span", { class: "fact" }, "aliases ", text(names.join(", ")))];
 }
 
-function factOf([member, value]) {
+/** Where a field and its type say the same, whose it is: an enum has a default of its own. */
+function factsOfBoth(said, others, owner) {
+  const both = new Set(others.map(([member]) => member));
+  return said.map(([member, value]) => factOf(member, value, both.has(member) ? `${owner}'s ` : ""));
+}
+
+function factOf(member, value, whose) {
   if (member === "doc" && typeof value === "string") return element("span", { class: "fact doc" }, text(value));
-  return element("span", { class: "fact" }, text(member), " ", text(JSON.stringify(value)));
+  return element("span", { class: "fact" }, whose, text(member), " ", text(JSON.stringify(value)));
 }
 
 // ---- folding and moving

@@ -21,8 +21,8 @@ EXPECTED = ["status of 404", "status of 422", "status of 409", "status of 401", 
 def parts():
     """In this order: what one leaves behind the next may use."""
     read = [reading.try_start, reading.try_list, reading.try_identity, reading.try_subject, reading.try_fields, reading.try_taking, reading.try_comparison,
-            reading.try_versions, reading.try_missing, reading.try_slow, reading.try_away, reading.try_refused, reading.try_error, reading.try_checks,
-            reading.try_strangers, reading.try_tree_keys, try_only_read]
+            reading.try_versions, reading.try_missing, reading.try_slow, reading.try_away, reading.try_unanswered, reading.try_refused, reading.try_error, reading.try_checks,
+            reading.try_strangers, reading.try_tree_keys, reading.try_list_keys, try_only_read]
     write = [writing.begin_writing, writing.try_new_subject, writing.try_registering, writing.try_late_clash, writing.try_levels, writing.try_modes,
              writing.try_version_deletes, writing.try_refused_restore, writing.try_deletes_for_good, writing.try_unknown, writing.try_evil_commands,
              looks.try_looks, looks.take_picture, writing.try_by_keys, writing.try_by_mouse, writing.try_hostile, try_quiet, try_elsewhere]

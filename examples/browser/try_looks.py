@@ -31,6 +31,8 @@ def try_access(page, where, inside=""):
         seen = page.run("return [...document.querySelectorAll(arguments[0])].filter((it) => it.checkVisibility()).slice(0, 12)", f"{inside} {selector}")
         unnamed = [page.run("return arguments[0].outerHTML.slice(0, 80)", it) for it in seen if page.browser.name_of(it).strip() == ""]
         same(f"{selector} without a name, {where}", [], unnamed)
+    names = [page.browser.name_of(it) for it in page.run("return [...document.querySelectorAll(arguments[0])].filter((it) => it.checkVisibility())", f"{inside} button")]
+    same(f"buttons with one name, {where}", [], [name for place, name in enumerate(names) if name in names[:place]])
     levels = page.run("return [...document.querySelectorAll('h1, h2, h3, h4')].filter((it) => it.checkVisibility() && !it.closest('dialog')).map((it) => Number(it.tagName[1]))")
     same(f"headings that leave out a level, {where}", [], [pair for pair in zip(levels, levels[1:]) if pair[1] > pair[0] + 1])
     same(f"ids that are there twice, {where}", [], page.run("const ids = [...document.querySelectorAll('[id]')].map((it) => it.id); return ids.filter((id, place) => ids.indexOf(id) < place)"))

@@ -72,6 +72,12 @@ class Page:
         """Waits until an element's text begins so."""
         self.until(f"{selector} begins with {wanted}, not {self.text(selector)[:80]}", lambda: self.text(selector).startswith(wanted), seconds)
 
+    def in_sight(self, selector):
+        """Whether the whole of it is in the window, and nothing over its ends."""
+        return self.run("""const it = document.querySelector(arguments[0]), box = it.getBoundingClientRect();
+            const over = (y) => it.contains(document.elementFromPoint(box.left + 3, y));
+            return box.top >= 0 && box.bottom <= innerHeight && over(box.top + 3) && over(box.bottom - 3)""", selector)
+
     # ---- what is done
 
     def click(self, selector, place=0):

@@ -64,6 +64,7 @@ def try_list(page, subjects):
     page.until("it is marked on its own page of the list", lambda: page.texts("#subjects a[aria-current]") == ["topic-00777"])
     inside = page.run("const it = document.querySelector('#subjects a[aria-current]').getBoundingClientRect(); return it.top > 0 && it.bottom <= innerHeight")
     same("it is in sight", True, inside)
+    same("so is what finds another", [True, True], [page.in_sight("#identity-number"), page.in_sight("#search")])
     page.load("#subject=topic-00555")
     page.until("a link marks it too", lambda: page.texts("#subjects a[aria-current]") == ["topic-00555"])
     page.show("subject=topic-00777")
@@ -139,8 +140,11 @@ def try_subject(page):
     same("their title", "3 versions", page.text("#versions-title"))
     same("the one that is shown", ["3"], page.texts("#versions a[aria-current]"))
     tree = page.text("#version .tree")
-    for words in ["record shop.Order", "An order, as it was placed.", "number: long", "aliases id", "email: null | string", "price: bytes (decimal)", "precision 9", "RETURNED", "default 9223372036854775807"]:
+    for words in ["record shop.Order", "An order, as it was placed.", "number: long", "aliases id", "email: null | string", "price: bytes (decimal)", "precision 9", "RETURNED", "default 9223372036854775807", "field's default \"PAID\"",
+                  "enum's default \"PLACED\""]:
         has("the tree", words, tree)
+    bold = page.texts("#version .tree b")
+    same("fields are bold, and an array's items aren't", [True, False], ["amount" in bold, "items" in bold])
     page.click("#versions a", 2)
     page.until("version 1", lambda: page.is_at(1))
     same("its title", "Version 1, schema id 2, deleted", page.text("#version-title"))
@@ -225,8 +229,8 @@ def try_taking(page):
     page.button("Schema JSON", "#version")
 
 
-CHANGES = ["number name: id became number", "number aliases: none became id", 'state default: none became "PLACED"', "state symbol added: RETURNED",
-           "weight field added: long, default 9223372036854775807", "placed field removed: long (timestamp-millis)"]
+CHANGES = ["number name: id became number", "number aliases: none became id", 'state default: none became "PAID"',
+           'state enum\'s default: none became "PLACED"', "state symbol added: RETURNED", "weight field added: long, default 9223372036854775807", "placed field removed: long (timestamp-millis)"]
 
 
 def try_comparison(page):
@@ -261,8 +265,10 @@ def try_versions(page):
     page.open("many", MANY)
     shown = page.texts("#versions a")
     same("few links for many versions", ["300", "299", "298", "3", "2", "1"], shown)
+    page.run("document.getElementById('subjects').scrollTop = 600")
     page.show("subject=many&version=150")
     page.until("one in the middle", lambda: page.is_at(150))
+    same("the list stays where it was", 600, page.run("return document.getElementById('subjects').scrollTop"))
     same("it is in sight", ["300", "299", "298", "152", "151", "150", "149", "148", "3", "2", "1"], page.texts("#versions a"))
     same("it is marked", ["150"], page.texts("#versions a[aria-current]"))
     page.picture("many")
@@ -332,6 +338,19 @@ def try_away(page):
     page.until("the list", lambda: " of " in page.text("#shown"))
 
 
+def try_unanswered(page):
+    """A check without an answer isn't made by itself once the registry is back, but what was said of it is over."""
+    page.open("orders", 3)
+    page.stand.end("writer", "tail", "follower")
+    has("no answer", "The registry can't be reached: the web server answers 502.", page.check(FOLLOWS))
+    page.stand.start_writer()
+    page.stand.start_follower()
+    page.until_text("#done", "The registry is back.")
+    same("what is said then", "The registry didn't answer, and is back now: check again.", page.text("#check .verdict"))
+    page.until("that it is back needn't stay", lambda: page.text("#done") == "", 20)
+    has("the check again", "Compatible.", page.check(FOLLOWS))
+
+
 def try_refused(page):
     page.open("orders", 3)
     page.stand.password("another")
@@ -369,9 +388,14 @@ def try_checks(page):
     page.open("orders", 3)
     page.button("Start from version 3")
     has("the text to begin with", '"default": 9223372036854775807', page.value("#check textarea"))
+    try_caret(page, "#check-title ~ div .buttons button")
+    page.button("Start from this version")
+    try_caret(page, "#version-tools button")
     page.check(NARROWER)
     page.button("Start from version 3")
     has("a verdict on another text", "This was said of the text before it was changed.", page.text("#check .verdict"))
+    colours = page.run("return ['.verdict', '.clash mark.broken', '.clash .why'].map((it) => getComputedStyle(document.querySelector(`#check ${it}`)).color)")
+    same("what was drawn for it is as pale", [colours[0]] * 3, colours)
     same("what may follow", "Compatible. It may be registered: the level is BACKWARD_TRANSITIVE.", page.check(FOLLOWS))
     same("what agrees with one", "Compatible. It agrees with version 2.", page.check(ORDERS[1], "2"))
     same("no clash is left", 0, page.count("#check .clash section"))
@@ -380,6 +404,18 @@ def try_checks(page):
         has("what isn't a schema", "The registry refuses: 42201 Invalid Avro schema", verdict)
         has(f"the reason of {schema}", reason, verdict)
     page.picture("invalid")
+    page.browser.size(1300, 700)
+    page.run("scrollTo(0, 0)")
+    page.check(FAULTS[0][0])
+    same("the reason is in sight", True, page.in_sight("#check .verdict"))
+    page.browser.size(1300, 1500)
+
+
+def try_caret(page, where):
+    """The text that one starts from shows its beginning, with the caret there, in sight."""
+    got = page.run("""const it = document.querySelector("#check textarea"), box = it.getBoundingClientRect();
+        return [it === document.activeElement, it.selectionStart, it.selectionEnd, it.scrollTop, box.top > 0 && box.bottom <= innerHeight]""")
+    same(f"where the text begins by {where}", [True, 0, 0, 0, True], got)
 
 
 def try_strangers(page):
@@ -409,6 +445,36 @@ def try_strangers(page):
     same("pictures and scripts in it", 0, page.count("img, body script, iframe, object"))
     page.run("const it = document.createElement('script'); it.textContent = 'document.body.dataset.ran = 1'; document.body.append(it); it.remove()")
     same("a script that isn't a file of the page", None, page.run("return document.body.dataset.ran ?? null"))
+
+
+def try_list_keys(page):
+    """The list is one stop of the Tab key, and the arrow keys go through it."""
+    page.show("id=77777")
+    page.until_text("#identity-missing", "No schema has the id 77777.")
+    for _ in range(9):
+        page.browser.press_shifted(TAB)
+        if page.focused() == "identity-number":
+            break
+    same("the way back to another id", "identity-number", page.focused())
+    page.show("id=1")
+    page.until("versions", lambda: page.count("#identity-versions a") > 0)
+    names = page.texts("#subjects a")
+    page.run("document.getElementById('search').focus()")
+    page.press(DOWN, DOWN)
+    same("down into the list", names[1], page.focused())
+    page.press(END)
+    same("its end", names[-1], page.focused())
+    page.press(DOWN, HOME)
+    same("its beginning", names[0], page.focused())
+    page.press(DOWN, DOWN, TAB)
+    same("out of it", False, page.run("return document.getElementById('subjects').contains(document.activeElement)"))
+    page.browser.press_shifted(TAB)
+    same("back to where the keys were", names[2], page.focused())
+    same("its stops", 1, page.count("#subjects a[tabindex='0']"))
+    page.press(UP, UP, UP)
+    same("up to the search", "search", page.focused())
+    page.show("subject=topic-00003")
+    page.until("the chosen one is the stop", lambda: page.texts("#subjects a[tabindex='0']") == ["topic-00003"])
 
 
 def try_tree_keys(page):

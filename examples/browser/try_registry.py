@@ -25,12 +25,12 @@ def field(name, type, **more):
 LINE = record("Line", field("article", "string"), field("amount", "int"), field("price", {"type": "bytes", "logicalType": "decimal", "precision": 9, "scale": 2}))
 LINE_2 = record("Line", LINE["fields"][0], field("amount", "long"), LINE["fields"][2])
 CUSTOMER = record("Customer", field("name", "string"), field("email", ["null", "string"], default=None, doc="Left out if a customer only calls."))
-STATE = {"type": "enum", "name": "State", "symbols": ["PLACED", "PAID", "SENT"]}
-STATE_3 = {**STATE, "symbols": ["PLACED", "PAID", "SENT", "RETURNED"], "default": "PLACED"}
+STATE = field("state", {"type": "enum", "name": "State", "symbols": ["PLACED", "PAID", "SENT"]})
+STATE_3 = field("state", {**STATE["type"], "symbols": ["PLACED", "PAID", "SENT", "RETURNED"], "default": "PLACED"}, default="PAID")
 
 
 def order(first, line, *more, state=STATE):
-    return record("Order", first, field("customer", CUSTOMER), field("lines", {"type": "array", "items": line}), field("state", state), *more,
+    return record("Order", first, field("customer", CUSTOMER), field("lines", {"type": "array", "items": line}), state, *more,
                   namespace="shop", doc="An order, as it was placed.")
 
 

@@ -50,13 +50,17 @@ def try_registering(page):
     same("no question", "", page.text("#question"))
     page.write("#check textarea", json.dumps(SECOND))
     page.button("Register…", "#check")
-    has("what will happen", "It is compatible, and becomes version 2.", page.asked_question("Register this schema in "))
+    words = page.asked_question("Register this schema in ")
+    has("what will happen", "It is compatible, and becomes version 2.", words)
+    has("what changes", "Against version 1, the latest: 1 field added (b).", words)
     page.picture("question")
     page.yes("Registered as version 2, with schema id ")
     page.until("it is shown", lambda: page.is_at(2))
+    same("no verdict is left", "", page.text("#check .verdict"))
     page.write("#check textarea", json.dumps(FIRST))
     page.button("Register…", "#check")
-    page.asked_question("Register this schema in ")
+    has("what would be lost", "Against version 2, the latest: 1 field removed (b).", page.asked_question("Register this schema in "))
+    same("it is marked", ["1 field removed"], page.texts("#question .lost"))
     page.yes("The subject has this schema already: version 1, schema id ")
 
 
@@ -238,23 +242,29 @@ def try_by_keys(page):
     page.run("document.body.focus(); document.activeElement.blur()")
     page.press(TAB)
     same("the first stop", "skip", page.focused())
-    go_to(page, "identity-number", 8)
+    go_to(page, "identity-number", 4)
     page.press("4", ENTER)
     page.until_text("#identity-title", "Schema id 4")
     page.until("the version", lambda: page.texts("#identity-versions a") == ["orders, version 3"])
-    go_to(page, "orders, version 3", 4)
+    try_frame(page, "identity-title")
+    go_to(page, "orders, version 3", 2)
     page.press(ENTER)
-    page.until("the version", lambda: page.is_at(3))
-    same("where the keys are", "subject-title", page.focused())
-    go_to(page, "", 40, "TEXTAREA")
+    page.until("the version", lambda: page.is_at(3) and page.focused() != "subject-title")
+    try_frame(page, "version-title")
+    go_to(page, "Start from this version", 2)
+    page.press(ENTER)
+    same("where one types", "TEXTAREA", tag(page))
+    page.press("\ue009a")
     page.paste(json.dumps(NARROWER))
-    go_to(page, "Check compatibility", 3)
+    go_to(page, "Check compatibility", 2)
     page.press(ENTER)
     page.until_text("#check .verdict", "Not compatible. version 3, BACKWARD, at /field:lines/items/field:amount: TYPE_MISMATCH")
-    go_back(page, "TEXTAREA")
+    go_back(page, "Start from version 3", 3)
+    page.press(ENTER)
+    same("where one types again", "TEXTAREA", tag(page))
     page.press("\ue009a")
     page.paste(json.dumps(FOLLOWS))
-    go_to(page, "Register…", 4)
+    go_to(page, "Register…", 3)
     page.press(SPACE)
     page.asked_question("Register this schema in orders?")
     same("the keys are at the answer", "question-yes", page.focused())
@@ -267,21 +277,22 @@ def tag(page):
     return page.run("return document.activeElement.tagName")
 
 
-def go_to(page, wanted, most, kind=None):
+def try_frame(page, wanted):
+    """After the Enter key what has the keys has a frame."""
+    same("where the keys are", [wanted, "solid 3px"], [page.focused(), page.run("const it = getComputedStyle(document.activeElement); return `${it.outlineStyle} ${it.outlineWidth}`")])
+
+
+def go_to(page, wanted, most, step=None):
     """Presses Tab until something has the keys."""
     for _ in range(most):
-        page.press(TAB)
-        if (kind and tag(page) == kind) or (not kind and page.focused() == wanted):
+        (step or page.press)(TAB)
+        if page.focused() == wanted:
             return
-    same(f"the way to {wanted or kind} in {most} steps", wanted or kind, page.focused())
+    same(f"the way to {wanted} in {most} steps", wanted, page.focused())
 
 
-def go_back(page, kind):
-    for _ in range(8):
-        page.browser.press_shifted(TAB)
-        if tag(page) == kind:
-            return
-    same(f"the way back to {kind}", kind, tag(page))
+def go_back(page, wanted, most):
+    go_to(page, wanted, most, page.browser.press_shifted)
 
 
 def try_by_mouse(page):

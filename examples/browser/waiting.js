@@ -5,10 +5,12 @@ import { Away, isThere, Refusal, waits } from "./registry.js";
 const SOON = 800; // milliseconds without an answer until that is said
 const LONG = 8_000; // and until it is said for how long
 const STEPS = [1_000, 2_000, 4_000, 8_000, 15_000]; // milliseconds between tries while the registry is away
+const BRIEF = 8_000; // milliseconds that what needn't stay is shown
 
 let comeBack = () => {}; // what is done once the registry is back
 let next; // the timer of the next try
 let tries = 0;
+let fading; // the timer that ends what needn't stay
 
 export function onReturn(action) {
   comeBack = action;
@@ -58,7 +60,14 @@ export function inWords(error) {
 }
 
 export function tellDone(...words) {
+  clearTimeout(fading);
   by("done").replaceChildren(...words);
+}
+
+/** Says what needn't stay. */
+export function tellBriefly(words) {
+  tellDone(words);
+  fading = setTimeout(() => tellDone(), BRIEF);
 }
 
 // ---- away and back
@@ -90,7 +99,7 @@ async function tryNow() {
   next = undefined;
   setAway(false);
   clearTrouble();
-  tellDone("The registry is back.");
+  tellBriefly("The registry is back.");
   await comeBack();
 }
 
