@@ -297,6 +297,7 @@ fn a_brief_check_is_given_up(rt: HostRuntime) -> Result<(), Fail> {
         "nor is another one asked"
     );
     assert_eq!(rt; line.arrivals().now(), 1);
+    let _check = line.wait_for_request(&rt);
     tell(&rt, alloc, &line, "kept\n")?;
     line.arrivals().serve(line.arrivals().now(), false);
     let (answer, _bytes) = exchange(&rt, alloc, &mut chain, &line, &[], "kept\n");
