@@ -6,6 +6,7 @@ import sys
 import time
 import traceback
 
+from copies import Copy
 from faults import Anew, Broken, Declined, NotDone, Unreachable
 from joining import Adapter, follow, rules_of, say
 from logs import end_line, has_floor, offset_of, read_log, read_whole
@@ -46,6 +47,7 @@ def add_commands(parser):
     parser.add_argument("--patience", type=float, default=10, metavar="SECONDS",
                         help="how long a store that doesn't answer is tried (10). A process waits 30 seconds for an answer")
     parser.add_argument("--poll", type=float, default=1, metavar="SECONDS", help="how often is looked without a hint of the store (1)")
+    parser.add_argument("--copy", metavar="FILE", help="serve: keep a copy of the log in this file, so that the next start needn't read it all")
     parser.add_argument("--registry", metavar="URL", help="rebase: a process that serves this log")
     parser.add_argument("--whole", action="store_true", help="dump: write a line behind the log that says where it ends")
     parser.add_argument("--empty", action="store_true", help="init, rebase: put in an empty log")
@@ -60,7 +62,7 @@ def run(parser, make_store):
     options, command = parser.parse_args(words[:behind]), words[behind + 1:]
     if options.do in ("init", "serve") and not command:
         parser.error("%s needs the process's command behind --" % options.do)
-    for option, deeds in ("whole", ("dump",)), ("empty", ("init", "rebase")):
+    for option, deeds in ("whole", ("dump",)), ("empty", ("init", "rebase")), ("copy", ("serve",)):
         if getattr(options, option) and options.do not in deeds:
             parser.error("--%s is an option of %s" % (option, " and ".join(deeds)))
     if options.do == "rebase" and bool(options.registry) != bool(command):
@@ -134,7 +136,8 @@ def init(store, options, command):
 
 
 def serve(store, options, command):
-    return Adapter(store, command, options.patience, options.poll).serve()
+    copy = Copy(options.copy, say) if options.copy else None
+    return Adapter(store, command, options.patience, options.poll, copy).serve()
 
 
 def dump(store, options, command):

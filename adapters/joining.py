@@ -25,6 +25,7 @@ AHEAD = 1 << 20         # bytes that wait in the pipe to the process: it decides
 F_SETPIPE_SZ = 1031     # Linux; the module has it from Python 3.10 on
 NOBODYS = b'batch\n%d\t{"keytype":"NOT_A_LINE","magic":0}\tnull\n\n'    # given in place of a batch that isn't lines
 REMEMBERED = 100        # how many answers to appends say whether this process is overtaken often
+TOLD = 1000             # the tokens of so many batches are known to be no news
 
 
 def say(text):
@@ -33,6 +34,8 @@ def say(text):
 
 class Store:
     """What an adapter needs of a store. Each call may raise any of the exceptions above."""
+
+    is_all = False          # the last read gave all that was there at one moment since it began, and nothing stood behind that
 
     def begin(self):
         """The base."""
@@ -46,6 +49,10 @@ class Store:
     def append(self, batch):
         """Whether this call made the batch the last. False: something else stands where it belongs, or an earlier try of it does."""
         raise NotImplementedError
+
+    def append_or_read(self, batch):
+        """None, where this call made the batch the last; else what stands from its place on, read since."""
+        return None if self.append(batch) else self.read(batch.first, batch.before)
 
     def watch(self, wake):
         """Has `wake` called, from a thread of its own, soon after somebody appended, with the token where it is known. Nothing rests on
@@ -86,7 +93,7 @@ class Process:
     """The registry process: what is given to it, and the requests that it makes."""
 
     def __init__(self, command, events):
-        self.events, self.has_ended = events, False
+        self.events, self.has_ended, self.is_asking = events, False, False      # is_asking: a request is among the events
         try:
             self.child = subprocess.Popen(command, stdin=subprocess.PIPE, stdout=subprocess.PIPE)
         except OSError as fault:
@@ -100,6 +107,7 @@ class Process:
         lines = []
         for line in self.child.stdout:
             if line == b"\n":
+                self.is_asking = True
                 self.events.put(lines)
                 lines = []
             else:
@@ -143,14 +151,21 @@ def rules_of(command):
     return int(text)
 
 
-class Adapter:
-    """One process and the store, from the base on."""
+class Outdated(Exception):
+    """The store's base has gone past the copy that the process was given."""
 
-    def __init__(self, store, command, patience, poll):
-        self.store, self.command, self.patience, self.poll = store, command, patience, poll
+
+class Adapter:
+    """One process and the store, from the base on. `copy` (of copies.py) takes what it is given, where there is one."""
+
+    def __init__(self, store, command, patience, poll, copy=None):
+        self.store, self.command, self.patience, self.poll, self.copy = store, command, patience, poll, copy
         self.run, self.asked = secrets.token_hex(8), 0      # no two runs have one name, so no two requests have one token
         self.events = queue.SimpleQueue()                   # requests, "news", and None once the process has ended
-        self.has_news = threading.Event()
+        self.has_news = threading.Event()                   # "news" is among the events
+        self.hints = collections.deque()                    # the tokens that were hinted at since the last look at them
+        self.told = collections.deque(maxlen=TOLD)          # the tokens of what was given or kept, the last one first
+        self.looked = 0                                     # when the store was asked last
         self.is_down = False                                # the last thing that was tried found no store
         self.is_over = False                                # a batch isn't lines: nothing is given behind it, or taken
         self.overtaken = collections.deque(maxlen=REMEMBERED)
@@ -161,31 +176,64 @@ class Adapter:
     def serve(self):
         """Serves the process until that ends, and gives the status to end with."""
         rules = rules_of(self.command)
+        content = self.copy and self.copy.open()
+        try:
+            if content and content.rules == rules:
+                return self.serve_from(Base(content.next, content.token, rules, [content.text]), content.batches)
+        except Outdated:
+            pass
+        return self.serve_from(self.base_of(rules))
+
+    def base_of(self, rules):
+        """The store's base, where it is of these rules."""
         base = self.insist(self.store.begin)
         if rules != base.rules:
             raise Broken("this log is of rules %d, and the process has rules %d: processes of other rules may not write to it. Go on with "
                          "the program that was there, or move the log to a new place (README.md, Upgrades)" % (base.rules, rules))
         check_base(base.pieces, base.next)
-        self.next, self.tail = base.next, base.token
+        if self.copy:
+            self.copy.start(base)
+        return base
+
+    def serve_from(self, base, copied=None):
+        """Serves a process from this base on, and from these batches behind it, if they are a copy's."""
+        self.next, self.tail, self.events = base.next, base.token, queue.SimpleQueue()
         self.process = Process(self.command, self.events)
         try:
-            self.begin(base)
+            self.begin(base, copied)
             while not self.process.has_ended:
                 self.turn()
+        except Outdated:
+            self.process.child.kill()
+            raise
         finally:
             status = self.process.end()
         say("the process ended, with status %d" % status)
         return 2 if status == 2 else 1
 
-    def begin(self, base):
+    def begin(self, base, copied):
         for piece in base.pieces:
             self.process.give(piece)
         self.process.give(b"\n")
-        self.insist(self.catch_up)
+        for _, following, token, lines in copied or ():
+            self.process.give(b"batch\n" + lines + b"\n")
+            self.next, self.tail = following, token
+        try:
+            self.insist(self.catch_up)
+        except (Anew, Broken) as fault:
+            if copied is not None:
+                self.give_up_copy(fault)
+            raise
         self.process.give(b"ready\n")
         if not self.process.has_ended:
             say("joined as %s at offset %d" % (self.run, self.next))
             self.store.watch(self.wake)
+
+    def give_up_copy(self, fault):
+        """What the process was given isn't the beginning of the store's log, or the store doesn't have what follows it."""
+        if isinstance(fault, Anew):
+            raise Outdated()
+        self.copy.put_aside()
 
     def insist(self, do):
         """Does it, however long the store isn't there."""
@@ -197,22 +245,34 @@ class Adapter:
                 time.sleep(0.5)
 
     def turn(self):
-        """One request, or a look for news."""
+        """One request, then a look for news, unless another request waits, which finds out as well. Hints of what is no news don't put off
+        the look without one."""
         try:
-            event = self.events.get(timeout=self.poll)
+            event = self.events.get(timeout=max(0, self.looked + self.poll - time.monotonic()))
         except queue.Empty:
             event = "news"
         if isinstance(event, list):
+            self.process.is_asking = False
             self.process.give(self.append(event) if event else self.check())
-        elif event == "news":
-            self.has_news.clear()
+            self.looked = time.monotonic()
+        if not self.process.is_asking and (self.is_hinted() or time.monotonic() >= self.looked + self.poll):
             self.check()
+            self.looked = time.monotonic()
 
     def wake(self, token=""):
-        """Somebody may have appended: a hint, from any thread. What this run appends is no news, and a look would hold up its next request."""
-        if not token.startswith(self.run) and not self.has_news.is_set():
+        """Somebody may have appended: a hint, from any thread, with the token where it is known."""
+        self.hints.append(token)
+        if not self.has_news.is_set():
             self.has_news.set()
             self.events.put("news")
+
+    def is_hinted(self):
+        """Whether a hint since the last look was of anything but what was told: what this run appended, or took in by a read, is no news."""
+        self.has_news.clear()
+        is_news = False
+        while self.hints:
+            is_news = self.hints.popleft() not in self.told or is_news
+        return is_news
 
     # The log, in its order
 
@@ -220,6 +280,9 @@ class Adapter:
         if (batch.first, batch.before) != (self.next, self.tail):
             raise Broken("the store's log isn't the one that was given, from offset %d on" % self.next)
         self.next, self.tail = batch.next, batch.token
+        self.told.appendleft(batch.token)
+        if self.copy:
+            self.copy.add(batch)
 
     def take(self, batches):
         for batch in batches:
@@ -248,10 +311,11 @@ class Adapter:
             if self.is_down:
                 self.is_down = False
                 say("store reached, at offset %d" % self.next)
-            if not batches:
+            if batches:
+                self.take(batches)
+                has_come = True
+            if not batches or self.store.is_all:
                 break
-            self.take(batches)
-            has_come = True
         return has_come
 
     def lose_sight(self, fault):
@@ -272,13 +336,17 @@ class Adapter:
         if self.is_over:
             return DECLINED
         batch = self.batch_of(lines)
-        if batch.first == self.next and self.is_down and self.check() == DECLINED:
-            return DECLINED
         if batch.first > self.next:
             raise Broken("the process asks for offset %d, and was given the log up to %d" % (batch.first, self.next))
-        answer = BEHIND if batch.first < self.next else self.settle(batch)
+        answer = BEHIND if batch.first < self.next else self.look_before() or self.settle(batch)
         self.count(answer)
         return answer
+
+    def look_before(self):
+        """The answer to an append that would be in vain: somebody else's batch was hinted at, or the store isn't there."""
+        was_down = self.is_down
+        answer = self.check() if was_down or self.is_hinted() else KEPT
+        return answer if answer == BEHIND or (answer == DECLINED and was_down) else b""
 
     def batch_of(self, lines):
         offsets = [line.split(b"\t", 1)[0] for line in lines]
@@ -309,16 +377,15 @@ class Adapter:
         """One try: an answer where it gives one, and why the store declined."""
         was_tried, self.may_stand = self.may_stand, True
         try:
-            is_appended, cause = self.store.append(batch), None
+            batches, cause = self.store.append_or_read(batch), None
         except NotDone:
             self.may_stand = was_tried
             raise
         except Declined as fault:           # a store may say so of what it did do: so it is looked for
-            is_appended, cause = False, fault
-        if is_appended:
+            batches, cause = self.read(), fault
+        if batches is None:
             self.stands(batch)
             return KEPT, None
-        batches = self.read()
         if batches and batches[0].token == batch.token:         # an earlier try of this very request
             self.stands(batch)
             self.wake()

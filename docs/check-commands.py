@@ -1,5 +1,5 @@
 #!/usr/bin/env python3
-"""Runs the commands of README.md and docs/TOUR.md against built programs, and compares what they print with what stands there.
+"""Runs the commands of the pages for users against built programs, and compares what they print with what stands there.
 
     python3 docs/check-commands.py out/registryd out/registrylog
 
@@ -7,7 +7,8 @@ A command stands behind `$ ` in a block, up to where a shell has all of it, and 
 a page run in one shell, in a new folder. Ports 8081 to 8085 stand for five free ones, which are picked. What a command in the background
 prints is waited for, and a lookup by `curl` is asked again until it is answered so, 20 seconds at most. For `kcat`, which needs a
 cluster, stands a script that prints the records in KCAT. Ends of lines and line breaks at the end aren't compared. Blocks without `$ `
-prove or build, and aren't run. It ends only what it started.
+prove, build or need a network, and aren't run: scripts in examples/ run those of docs/DEPLOY.md. A comment `<!-- given: .. -->` of a page
+has commands that run at its place, whatever they print. It ends only what it started.
 
 Behind `./NAME --try` the given program runs. Lines that begin with `NAME: ` there are those of --try itself, and aren't compared; if one
 says `listening on http://..`, the next command waits until something listens there.
@@ -25,7 +26,7 @@ import time
 from pathlib import Path
 
 TOP = Path(__file__).resolve().parent.parent
-PAGES = ["README.md", "docs/TOUR.md"]
+PAGES = ["README.md", "docs/TOUR.md", "docs/KEEPING.md", "docs/HTTP.md"]
 PATIENCE = 20  # seconds
 TRIED = re.compile(r"\./(\w+) --try ")
 KCAT = r"""[1, "{\"keytype\":\"SCHEMA\",\"subject\":\"s\",\"version\":1,\"magic\":1}", "{\"subject\":\"s\",\"version\":1,\"id\":1,\"schema\":\"\\\"string\\\"\",\"deleted\":false}"]
@@ -40,10 +41,13 @@ def has_end(command):
 
 
 def commands_of(text):
-    """Each command of a page, with the number of its line and what is printed."""
-    for block in re.finditer(r"(?ms)^```\n(.*?)^```$", text):
+    """Each command of a page, with the number of its line and what is printed, or none where that doesn't matter."""
+    for block in re.finditer(r"(?ms)^```\n(.*?)^```$|^<!-- given: (.*?) -->$", text):
+        number = text.count("\n", 0, block.start()) + 2
+        if block[2]:
+            yield number - 1, block[2], None
+            continue
         lines, at = block[1].split("\n")[:-1], 0
-        number = text.count("\n", 0, block.start(1)) + 1
         while at < len(lines):
             if not lines[at].startswith("$ "):
                 at += 1
@@ -157,6 +161,9 @@ def check(page, programs):
     try:
         text = re.sub(r"\b808([1-5])\b", lambda m: str(port + int(m[1]) - 1), (TOP / page).read_text())
         for line, command, wanted in commands_of(text):
+            if wanted is None:
+                shell.run(command, "")
+                continue
             wanted, place = without_try(command, wanted)
             found, until = shell.run(command, wanted), time.monotonic() + PATIENCE
             if place:

@@ -131,6 +131,7 @@ try_installed() {
     same "the folder" "registry registry 750" "$(stat -c '%U %G %a' /var/lib/registry)"
     same "the log, an empty line" "registry registry 640 1 0" "$(stat -c '%U %G %a %s' "$log") $(tr -d '\n' <"$log" | wc -c)"
     same "the checksums of PROVED" $'registryd: OK\nregistrylog: OK' "$(cd /usr/bin && grep '  registry' /usr/share/doc/registry/PROVED | sha256sum -c)"
+    same "the tools on the path" 4 "$(cd /usr/bin && find -L check-schemas copy-registry dump-topic registry-diff -type f -perm 755 | wc -l)"
     same "the units' faults" '' "$(systemd-analyze verify --man=no "${units[@]/%/.service}" 2>&1)"
     for name in "${units[@]}"; do
         systemd-analyze security --offline=true --threshold=20 --no-pager "$(unit "$name")" | grep Overall
@@ -145,6 +146,10 @@ try_completion() {
         [ "$command" != help ] || continue
         same "completion of $command" "$(words_of "$command" '^ +(-., )?--[a-z]+' | grep -oE -e '--[a-z]+' | sort | paste -sd ' ')" "$(completed registrylog "$command" --)"
     done
+    . /usr/share/bash-completion/completions/registryd
+    COMP_WORDS=(registryd '') COMP_CWORD=1
+    _registryd registryd ''
+    same "completion of registryd" "fold serve sketch" "$(printf '%s\n' "${COMPREPLY[@]}" | sort | paste -sd ' ')"
     same "completion of a value" '' "$(completed registrylog keep --nodes '')"
     cd /trial
     same "completion of a file" higher.deb "$(completed registrylog check high)"

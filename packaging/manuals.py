@@ -1,13 +1,16 @@
 #!/usr/bin/env python3
-"""Writes the manual pages from the documents in docs/: manuals.py FOLDER DATE VERSION
+"""Writes the manual pages from the documents in docs/, and those of the tools from their help: manuals.py FOLDER DATE VERSION
 
 Each page is sections of the documents, as PAGES lists them; a section that isn't there any more is an error."""
+import os
 import re
+import subprocess
 import sys
 from pathlib import Path
 from typing import NamedTuple
 
-DOCS = Path(__file__).resolve().parent.parent / "docs"
+TOP = Path(__file__).resolve().parent.parent
+DOCS = TOP / "docs"
 
 
 class Page(NamedTuple):
@@ -46,6 +49,7 @@ PAGES = [
     }),
     Page("registry-log", 5, "the lines of a registry's log", [
         ("KEEPING.md", "The file"),
+        ("TOUR.md", "A registry that outlives its process"),
         ("FORMATS.md", "A line"),
         ("FORMATS.md", "The floor"),
         ("FORMATS.md", "Keys"),
@@ -55,6 +59,12 @@ PAGES = [
         ("KEEPING.md", "Compacting while batches are appended"),
     ], ["registrylog(1)", "registryd(1)"]),
 ]
+TOOLS = {
+    "check-schemas": "says of each schema in a folder whether it may be registered",
+    "copy-registry": "copies a schema registry to another one",
+    "dump-topic": "prints the topic of a schema registry as a log",
+    "registry-diff": "says what two schema registries answer differently",
+}
 ITEM = re.compile(r"(- |\d+\. )")
 
 
@@ -212,9 +222,23 @@ def synopsis(program, parts):
                 yield line
 
 
+def head(name, number, about, date, version):
+    return [f'.TH {name.upper()} {number} {date} "registry {version}" "Schema registry"', ".nh", ".ad l", ".SH NAME", f"{escaped(name)} \\- {about}"]
+
+
+def tool_manual(name, about, date, version):
+    """The help of a tool: what it is called by, and the rest as it stands."""
+    asked = subprocess.run([sys.executable, TOP / "tools" / name, "--help"], capture_output=True, text=True, check=True,
+                           env={**os.environ, "COLUMNS": "80", "PYTHONDONTWRITEBYTECODE": "1", "NO_COLOR": "1"})
+    # Python before 3.10 calls them otherwise.
+    usage, _, rest = asked.stdout.replace("optional arguments:", "options:").partition("\n\n")
+    made = head(name, 1, about, date, version)
+    made += [".SH SYNOPSIS", *code(usage.removeprefix("usage: ").split("\n"))[1:], ".SH DESCRIPTION", *code(rest.strip("\n").split("\n"))[1:]]
+    return "\n".join([*made, '.SH "SEE ALSO"', "\\fBregistrylog\\fR(1); DEPLOY.md in \\fI/usr/share/doc/registry\\fR"]) + "\n"
+
+
 def manual(page, date, version):
-    made = [f'.TH {page.name.upper()} {page.number} {date} "registry {version}" "Schema registry"', ".nh", ".ad l"]
-    made += [".SH NAME", f"{escaped(page.name)} \\- {page.about}"]
+    made = head(page.name, page.number, page.about, date, version)
     bodies = [(heading, list(blocks(section(document, heading)))) for document, heading in page.sections]
     if lines := [line for _, body in bodies for line in synopsis(page.name, body)]:
         made += [".SH SYNOPSIS", ".nf", *(f"\\fB{escaped(line)}\\fR" for line in lines), ".fi"]
@@ -233,6 +257,8 @@ def main():
     folder, date, version = sys.argv[1:]
     for page in PAGES:
         Path(folder, f"{page.name}.{page.number}").write_text(manual(page, date, version), encoding="utf-8")
+    for name, about in TOOLS.items():
+        Path(folder, f"{name}.1").write_text(tool_manual(name, about, date, version), encoding="utf-8")
 
 
 main()

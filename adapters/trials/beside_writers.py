@@ -12,6 +12,7 @@ import time
 from dataclasses import dataclass
 from urllib.parse import quote
 
+from pace import slow
 from registry import Registry
 from seats import HERE, expect
 from stores import free_ports
@@ -20,7 +21,7 @@ from trial import case
 SUBJECTS = ("s", "team/t", "größe")
 SCHEMAS = ('"int"', '"long"', '"string"', '"bytes"')
 LEVELS = ("NONE", "BACKWARD", "FORWARD_TRANSITIVE", "FULL")
-SECONDS = 14
+SECONDS, ENOUGH = 14, 60     # a busy machine has more seconds for so many answers
 
 
 @dataclass
@@ -76,7 +77,7 @@ class Joined:
 
     def ask(self, method, path, body=None):
         """Status, body and place; None where nobody answers."""
-        connection = http.client.HTTPConnection("127.0.0.1", self.port, timeout=40)
+        connection = http.client.HTTPConnection("127.0.0.1", self.port, timeout=slow(40))
         try:
             connection.request(method, path, None if body is None else json.dumps(body), {})
             response = connection.getresponse()
@@ -206,7 +207,8 @@ def registries(trial, kind):
         thread.start()
     began = time.monotonic()
     shorter = make_shorter(log, joined, 2) if kind != "kafka" else 0
-    time.sleep(max(0, SECONDS - (time.monotonic() - began)))
+    while time.monotonic() < began + SECONDS or (len(answers) < ENOUGH and time.monotonic() < began + slow(SECONDS)):
+        time.sleep(0.1)
     ended.set()             # whoever is asked now may wait for its answer
     for thread in threads:
         thread.join()
@@ -226,7 +228,7 @@ def registries(trial, kind):
 
 def equal_values(joined):
     """What all of them hold, once each has answered a command, which makes it take in all that there is."""
-    until, held = time.monotonic() + 60, []
+    until, held = time.monotonic() + slow(60), []
     for one in joined:
         while True:
             answer = one.ask("DELETE", "/config/nobody")

@@ -2,8 +2,9 @@
 """Where the time of a write goes: hops.py [--store postgres] REGISTRYLOG [ROUNDS].
 
 One client registers through a process and its adapter, in turns of 20 with a plain client that sends the same transactions to a log beside,
-over one connection (20 rounds). Of each registration it is told when the client asked, when the adapter had the request, when it asked the
-store, when it had that's answer, when the process had its own, and when the client had its answer: the medians of what lies between."""
+over one connection (21 rounds). Of each registration it is told when the client asked, when the adapter had the request, when it asked the
+store, when it had that's answer, when the process had its own, and when the client had its answer: the medians of what lies between. What the
+plain client takes, as a share of all, is the median of seven parts of the run. Behind it stands the processor time of each write."""
 import argparse
 import http.client
 import json
@@ -20,12 +21,13 @@ import time
 HERE = os.path.dirname(os.path.realpath(__file__))
 sys.path.insert(0, HERE)
 
-from long_logs import line_of
+from long_logs import line_of, process_time
+from many_writers import used_by
 from programs import CLASSES, load, store_of
 from stores import free_ports
 from trial import Trial
 
-TURN = 20
+TURN, PARTS = 20, 7
 HOPS = ("client to adapter, by the process", "adapter: until it asks the store", "store", "adapter: until the process is told",
         "to the client, by the process")
 
@@ -60,7 +62,7 @@ def serve(note, words):
                 file.write(json.dumps([*met[:2], met[-1], now]) + "\n")
     joining.queue.SimpleQueue, joining.Process.give = Queue, gives
     store = next(getattr(program, name) for name in CLASSES.values() if hasattr(program, name))
-    store.append = noted(store.append)
+    store.append_or_read = noted(store.append_or_read)
     sys.argv[:] = words
     program.run(program.make_parser(), store)
 
@@ -125,17 +127,29 @@ def measure(trial, options):
             break
     threading.Thread(target=adapter.stderr.read, daemon=True).start()
     plain, line = Plain(options.store, plain_words), http.client.HTTPConnection("127.0.0.1", port)
-    bare, asked = [], []
+    bare, asked, own, used = [], [], 0, [used_by(adapter.pid), process_time(adapter.pid)]
     for turn in range(options.rounds):
         asked += [register(line, turn * TURN + number) for number in range(TURN)]
+        before = time.process_time()
         bare += [plain.append() for _ in range(TURN)]
+        own += time.process_time() - before
+    used = [now - then for now, then in zip([used_by(adapter.pid), process_time(adapter.pid)], used)]
     with open(note, encoding="utf-8") as file:
         hops = [[first, *json.loads(one), last] for (first, last), one in zip(asked, file)]
     if len(hops) != len(asked):
         sys.exit("%d of %d were noted" % (len(hops), len(asked)))
-    whole, alone = (1000 * statistics.median(times) for times in ([one[-1] - one[0] for one in hops], bare))
-    print("%s, %d registrations, a median of %.2f ms; of a plain client %.2f ms, %.2f of it" % (
-        options.store, len(hops), whole, alone, alone / whole))
+    tell(options.store, hops, bare)
+    print("processor time of a write: %.2f ms of the adapter, %.2f of the process, %.2f of the plain client" % tuple(
+        1000 * seconds / len(hops) for seconds in (*used, own)))
+
+
+def tell(store, hops, bare):
+    all_of_it = [one[-1] - one[0] for one in hops]
+    whole, alone = (1000 * statistics.median(times) for times in (all_of_it, bare))
+    size = len(hops) // PARTS
+    shares = [statistics.median(bare[at:at + size]) / statistics.median(all_of_it[at:at + size]) for at in range(0, PARTS * size, size)]
+    print("%s, %d registrations, a median of %.2f ms; of a plain client %.2f ms; of %d parts it takes %.2f of that (%.2f to %.2f)" % (
+        store, len(hops), whole, alone, PARTS, statistics.median(shares), min(shares), max(shares)))
     for number, name in enumerate(HOPS):
         print("%6.2f ms  %s" % (1000 * statistics.median(one[number + 1] - one[number] for one in hops), name))
 
@@ -146,7 +160,7 @@ def main():
     parser = argparse.ArgumentParser(description=__doc__, formatter_class=argparse.RawDescriptionHelpFormatter)
     parser.add_argument("program", metavar="REGISTRYLOG")
     parser.add_argument("--store", choices=["etcd", "postgres"], default="etcd")
-    parser.add_argument("rounds", nargs="?", type=int, default=20)
+    parser.add_argument("rounds", nargs="?", type=int, default=21)
     options = parser.parse_args()
     signal.signal(signal.SIGTERM, lambda *_: sys.exit(143))
     folder = tempfile.mkdtemp(prefix="hops-")

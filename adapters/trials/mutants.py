@@ -14,7 +14,7 @@ MUTANTS = {
     "behind where the outcome is unknown": (
         "joining.py", "        return LOST\n", "        return BEHIND\n", ["etcd:no_contact", "postgres:arrives_late"]),
     "a refusal that is believed at once": (
-        "joining.py", "            is_appended, cause = False, fault\n", "            return DECLINED, fault\n", ["etcd:done_and_refused"]),
+        "joining.py", "            batches, cause = self.read(), fault\n", "            return DECLINED, fault\n", ["etcd:done_and_refused"]),
     "reads of one member that may lag": (
         "join-etcd", '"limit": str(limit), **', '"limit": str(limit), "serializable": True, **', ["etcd:lagging_member"]),
     "checks that don't look": (
@@ -44,6 +44,22 @@ MUTANTS = {
         "join-postgres", "            self.execute(ARE_ON_BOTH)\n", "", ["postgres:second_server"]),
     "a base whose pieces may be gone": (
         "join-etcd", '[self.is_there("piece/%s/%08d" % (name, 0))] if pieces else []', "[]", ["etcd:what_follows_what"]),
+    "hints that are read for though they were told": (
+        "joining.py", "self.hints.popleft() not in self.told or is_news", "self.hints.popleft() != None or is_news",
+        ["etcd:what_follows_what"]),
+    "hints of the last batch alone": (
+        "joining.py", "self.hints.popleft() not in self.told or is_news", "self.hints.popleft() not in self.told",
+        ["etcd:what_follows_what"]),
+    "hints that put off the look without one": (
+        "joining.py", " or time.monotonic() >= self.looked + self.poll", "", ["etcd:what_follows_what"]),
+    "a read that always counts as all": (
+        "joining.py", "if not batches or self.store.is_all:", "if True:", ["etcd:what_follows_what"]),
+    "a read that is said to be all": (
+        "join-etcd", "self.is_all = batches[-1].next == following", "self.is_all = True", ["etcd:what_follows_what"]),
+    "copies that aren't looked at": (
+        "copies.py", " and digest_of(b\" \".join(words[:5]), data, before) == words[5]", "", ["etcd:copies"]),
+    "a copy of what the store doesn't have": (
+        "joining.py", "            self.insist(self.catch_up)\n        except (Anew", "            pass\n        except (Anew", ["etcd:copies"]),
     "other rules are served": (
         "joining.py", "if rules != base.rules:", "if False:", ["etcd:words_and_statuses"]),
 }

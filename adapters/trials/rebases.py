@@ -5,6 +5,7 @@ import subprocess
 import sys
 
 from beside_writers import Joined, equal_values
+from pace import slow
 from seats import HERE, expect
 from stores import wait_for
 from trial import case
@@ -16,7 +17,7 @@ class Rebases:
     def __init__(self, trial, kind):
         self.trial, self.kind, self.log = trial, kind, trial.new_log(kind)
         self.joined = Joined(trial, self.log)
-        self.words = [os.path.join(trial.adapters, self.log.words[0]), *self.log.words[1:], "--patience", "60", "rebase", "--registry",
+        self.words = [os.path.join(trial.adapters, self.log.words[0]), *self.log.words[1:], "--patience", "%d" % slow(60), "rebase", "--registry",
                       "http://127.0.0.1:%d" % self.joined.port, "--", sys.executable, os.path.join(HERE, "stand_in.py"), "--compact", "{}"]
         equal_values([self.joined])
         for subject, schema in (("s", '"int"'), ("s", '"long"'), ("t", '"int"')):
@@ -26,7 +27,7 @@ class Rebases:
     def run(self, mode, number=0):
         """The status of a rebase, and what it says."""
         words = [sys.executable, os.path.join(HERE, "faulty.py"), mode, str(number), *self.words]
-        done = subprocess.run(words, stdout=subprocess.DEVNULL, stderr=subprocess.PIPE, check=False, timeout=120)
+        done = subprocess.run(words, stdout=subprocess.DEVNULL, stderr=subprocess.PIPE, check=False, timeout=slow(120))
         return done.returncode, done.stderr.decode()
 
     def check(self):

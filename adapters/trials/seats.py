@@ -7,6 +7,8 @@ import sys
 import threading
 import time
 
+from pace import slow
+
 HERE = os.path.dirname(os.path.realpath(__file__))
 
 
@@ -29,13 +31,21 @@ def whole(text):
     return text + b"\nend %d %d\n" % (text.count(b"\n"), max(int(line.split(b"\t")[0]) + 1 for line in text.splitlines()))
 
 
+def front_of(lines):
+    """The lines up to an empty one, or to their end."""
+    for line in lines:
+        if line == b"\n":
+            return
+        yield line
+
+
 class Seat:
     """An adapter that serves the test. `next` is the offset behind what was given, `log` are the lines of that, and `ends` how many lines
     there were behind the base, and behind each batch."""
 
     made = 0
 
-    def __init__(self, trial, words, rules=1, patience=3, poll=1):
+    def __init__(self, trial, words, rules=1, patience=3, poll=1, copy=None):
         Seat.made += 1
         self.name, self.trial = "seat%d" % Seat.made, trial
         self.words = [os.path.join(trial.adapters, words[0]), *words[1:]]
@@ -48,20 +58,24 @@ class Seat:
         self.errors = path + ".errors"
         with open(self.errors, "wb") as errors:
             self.adapter = subprocess.Popen(
-                [*self.words, "--patience", str(patience), "--poll", str(poll), "serve", "--",
+                [*self.words, "--patience", str(patience), "--poll", str(poll), *(["--copy", copy] if copy else []), "serve", "--",
                  sys.executable, os.path.join(HERE, "puppet.py"), path, str(rules)], stderr=errors)
         trial.later(self.end)
         threading.Thread(target=self.listen, args=(listener,), daemon=True).start()
 
     def listen(self, listener):
-        """Takes in what is given."""
-        self.line, _ = listener.accept()
-        listener.close()
-        lines = self.line.makefile("rb")
-        self.take(line for line in iter(lines.readline, b"\n") if line)
+        """Takes in what is given. An adapter may start its process anew, and gives it all again."""
+        while True:
+            self.line, _ = listener.accept()
+            with self.lock:
+                self.log, self.ends, self.next = [], [], 0
+            self.listen_to(self.line.makefile("rb", buffering=1 << 20))
+
+    def listen_to(self, lines):
+        self.take(front_of(lines))
         for line in lines:
             if line == b"batch\n":
-                self.take(iter(lines.readline, b"\n"))
+                self.take(front_of(lines))
             elif line == b"ready\n":
                 self.is_ready.set()
             else:
@@ -84,11 +98,11 @@ class Seat:
         self.next_then = self.next          # what was given before the answer
         self.messages.put(line.strip().decode())
 
-    def ready(self, limit=60):
-        expect(self.is_ready.wait(limit), self.name, "isn't ready:", self.said())
+    def ready(self):
+        expect(self.is_ready.wait(slow(60)), self.name, "isn't ready:", self.said())
         return self
 
-    def ask(self, lines, limit=60):
+    def ask(self, lines, limit=None):
         """Makes a request, and gives the answer."""
         self.send(lines)
         return self.answer(limit)
@@ -97,24 +111,25 @@ class Seat:
         self.requests.append([lines, None])
         self.line.sendall(b"".join(lines) + b"\n")
 
-    def answer(self, limit=60):
+    def answer(self, limit=None):
+        limit = limit or slow(60)
         try:
             self.requests[-1][1] = self.messages.get(timeout=limit)
         except queue.Empty:
             raise Wrong("%s has no answer for %d s: %s" % (self.name, limit, self.said()))
         return self.requests[-1][1]
 
-    def append(self, text="", count=1, limit=60):
+    def append(self, text="", count=1, limit=None):
         """Asks to append lines that no other request has."""
         at = self.next
         return self.ask([note(at + place, "%s %d %d %s" % (self.name, len(self.requests), place, text)) for place in range(count)], limit)
 
-    def check(self, limit=60):
-        return self.ask([], limit)
+    def check(self):
+        return self.ask([])
 
     def wait_until(self, holds, limit=60):
         """Waits until it was given something."""
-        until = time.monotonic() + limit
+        until = time.monotonic() + slow(limit)
         with self.lock:
             while not holds():
                 expect(self.lock.wait(until - time.monotonic()) or holds(), self.name, "waited in vain, at offset", self.next, self.said())
@@ -123,10 +138,10 @@ class Seat:
         with open(self.errors, encoding="utf-8") as errors:
             return errors.read()
 
-    def status(self, limit=60):
+    def status(self):
         """The status with which the adapter ends by itself."""
         try:
-            return self.adapter.wait(limit)
+            return self.adapter.wait(slow(60))
         except subprocess.TimeoutExpired:
             raise Wrong("%s doesn't end: %s" % (self.name, self.said()))
 

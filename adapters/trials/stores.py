@@ -12,6 +12,7 @@ import subprocess
 import threading
 import time
 
+from pace import slow, times
 from seats import Wrong, expect
 
 
@@ -26,11 +27,16 @@ def free_ports(count):
     return ports
 
 
+def patience():
+    """An adapter's option: how long a store may be silent."""
+    return ["--timeout", "%g" % slow(2)]
+
+
 def wait_for(holds, limit, what):
-    until = time.monotonic() + limit
+    until = time.monotonic() + slow(limit)
     while not holds():
         if time.monotonic() > until:
-            raise Wrong("in vain for %d s: %s" % (limit, what))
+            raise Wrong("in vain for %d s: %s" % (slow(limit), what))
         time.sleep(0.05)
 
 
@@ -46,10 +52,11 @@ def is_stopped(process):
 # etcd
 
 class Etcd:
-    """A cluster of etcd."""
+    """A cluster of etcd. On a busy machine its members are as patient with each other as adapters are with it."""
 
     def __init__(self, trial, members=3, words=(), tls=None):
         self.trial, self.words_more, self.tls = trial, list(words), tls
+        self.beats = ["--heartbeat-interval", "%d" % slow(100), "--election-timeout", "%d" % slow(1000)]
         self.folder = trial.new_folder("etcd")
         ports = free_ports(2 * members)
         self.clients, self.peers = ports[:members], ports[members:]
@@ -70,7 +77,7 @@ class Etcd:
                 ["etcd", "--name", "m%d" % number, "--data-dir", os.path.join(self.folder, "m%d" % number), "--listen-client-urls", url,
                  "--advertise-client-urls", url, "--listen-peer-urls", peer % self.peers[number], "--initial-advertise-peer-urls",
                  peer % self.peers[number], "--initial-cluster", cluster, "--initial-cluster-state", "new", "--logger", "zap",
-                 "--max-request-bytes", "10000000", "--auto-compaction-retention", "1h", *self.words_more],
+                 "--max-request-bytes", "10000000", "--auto-compaction-retention", "1h", *self.beats, *self.words_more],
                 stdout=log, stderr=log)
 
     def urls(self, *numbers):
@@ -78,14 +85,14 @@ class Etcd:
 
     def words(self, prefix, *numbers):
         """The beginning of an adapter's command line, for some members or all."""
-        return ["join-etcd", "--endpoints", self.urls(*numbers), "--prefix", prefix]
+        return ["join-etcd", *patience(), "--endpoints", self.urls(*numbers), "--prefix", prefix]
 
     def ask(self, number, path, message, token=None):
         """What a member answers to a message of its gateway."""
         if self.tls:
-            connection = http.client.HTTPSConnection("127.0.0.1", self.clients[number], timeout=30, context=self.tls)
+            connection = http.client.HTTPSConnection("127.0.0.1", self.clients[number], timeout=slow(30), context=self.tls)
         else:
-            connection = http.client.HTTPConnection("127.0.0.1", self.clients[number], timeout=30)
+            connection = http.client.HTTPConnection("127.0.0.1", self.clients[number], timeout=slow(30))
         try:
             connection.request("POST", path, json.dumps(message), {"Authorization": token} if token else {})
             return json.loads(connection.getresponse().read())
@@ -95,7 +102,10 @@ class Etcd:
     def put(self, key, value):
         """Whether it was done."""
         message = {"key": base64.b64encode(key.encode()).decode(), "value": base64.b64encode(value).decode()}
-        return "header" in self.ask(0, "/v3/kv/put", message)
+        try:
+            return "header" in self.ask(0, "/v3/kv/put", message)
+        except (OSError, ValueError, http.client.HTTPException):
+            return False
 
     def value(self, key):
         found = self.ask(0, "/v3/kv/range", {"key": base64.b64encode(key.encode()).decode()}).get("kvs", [])
@@ -194,7 +204,7 @@ class Postgres:
         words = [word for text in texts for word in ("-c", text)]
         done = subprocess.run(["psql", "-X", "-q", "-A", "-t", "-v", "ON_ERROR_STOP=1", "-h", "127.0.0.1", "-p", str(self.port),
                                "-U", "admin", "-d", "postgres", *words],
-                              stdout=subprocess.PIPE, stderr=subprocess.STDOUT, check=False, timeout=30)
+                              stdout=subprocess.PIPE, stderr=subprocess.STDOUT, check=False, timeout=slow(30))
         expect(done.returncode == 0, texts, done.stdout.decode())
         return done.stdout.decode().strip()
 
@@ -203,7 +213,7 @@ class Postgres:
 
     def words(self, schema, user="admin", port=None, more=""):
         """The beginning of an adapter's command line."""
-        return ["join-postgres", "--timeout", "2", "--dsn", self.dsn(schema, user, port, more)]
+        return ["join-postgres", *patience(), "--dsn", self.dsn(schema, user, port, more)]
 
     def processes(self):
         """The server's processes, the first one last."""
@@ -260,7 +270,7 @@ class Brokers:
         self.library.rd_kafka_mock_topic_create(self.cluster, name.encode(), 1, self.count)
 
     def words(self, topic):
-        return ["join-kafka", "--timeout", "2", "--brokers", self.names, "--topic", topic]
+        return ["join-kafka", *patience(), "--brokers", self.names, "--topic", topic]
 
     def stop(self, *numbers):
         for number in numbers:
@@ -330,7 +340,7 @@ class Gate:
                     act["now"] = self.act
                     self.met.set()
                     if self.act == "hold":
-                        self.released.wait(60)
+                        self.released.wait(slow(60))
                 far.sendall(data)
             if act["now"] == "hold":
                 time.sleep(3)           # a server may drop a request whose sender is seen to be gone
@@ -348,7 +358,7 @@ class Gate:
                     break
                 for byte in data if act["now"] == "drip" else ():
                     near.sendall(bytes([byte]))
-                    time.sleep(0.2)
+                    time.sleep(0.2 * max(1, times() / 4))
                 if act["now"] != "drip":
                     near.sendall(data)
             near.shutdown(socket.SHUT_RDWR)

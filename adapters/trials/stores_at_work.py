@@ -6,9 +6,10 @@ import subprocess
 import sys
 import time
 
+from pace import slow
 from programs import CLASSES
 from seats import HERE, expect
-from stores import Etcd, Postgres, wait_for
+from stores import Etcd, Postgres, patience, wait_for
 from trial import Log, case, rules_command
 
 OWN = set()         # cases that have a store of their own
@@ -24,7 +25,7 @@ def what_follows_what(trial, kind):
     """The store's own append: nothing but a batch behind the last token, at the next offset, is appended."""
     log = trial.new_log(kind)
     words = [sys.executable, os.path.join(HERE, "direct.py"), os.path.join(trial.adapters, log.words[0]), CLASSES[kind], *log.words[1:]]
-    done = subprocess.run(words, stdout=subprocess.PIPE, stderr=subprocess.STDOUT, check=False, timeout=60)
+    done = subprocess.run(words, stdout=subprocess.PIPE, stderr=subprocess.STDOUT, check=False, timeout=slow(60))
     expect(done.returncode == 0, done.stdout.decode())
 
 
@@ -51,7 +52,7 @@ def no_space(trial, kind):
     store.words_more = []
     store.restart(0)
     wait_for(lambda: store.leader() is not None, 20, "etcd again")
-    until = time.monotonic() + 60
+    until = time.monotonic() + slow(60)
     while seat.append() != "kept":
         expect(time.monotonic() < until, seat.said())
     log.agree([seat])
@@ -108,7 +109,7 @@ def rights_and_tls(trial, kind):
         file = os.path.join(folder, "password-%s-%s" % (name, password))
         with open(file, "w", encoding="utf-8") as text:
             text.write(password + "\n")
-        return ["join-etcd", "--endpoints", store.urls(), "--prefix", prefix, "--user", name, "--password-file", file, *more]
+        return ["join-etcd", *patience(), "--endpoints", store.urls(), "--prefix", prefix, "--user", name, "--password-file", file, *more]
     log = Log(trial, words("writer"), "/registry")
     log.run("init", "--empty", command=rules_command(1))
     writer, reader = log.seat().ready(), log.seat(words("reader")).ready()
@@ -181,7 +182,7 @@ def leader_moves(trial, kind):
     for broker in (1, 2, 3, 1):
         store.lead(log.name, broker)
         for ask in (seat.check, seat.append, other.check):
-            until = time.monotonic() + 60
+            until = time.monotonic() + slow(60)
             while ask() not in ("kept", "behind"):
                 expect(time.monotonic() < until, "under another leader:", seat.said(), other.said())
     log.agree([seat, other])
@@ -199,7 +200,7 @@ def second_server(trial, kind):
     wait_for(lambda: "sync" == first.sql("SELECT sync_state FROM pg_stat_replication"), 20, "a synchronous server")
     dsn = ("host=127.0.0.1,127.0.0.1 port=%d,%d dbname=postgres user=admin options=-csearch_path=registry target_session_attrs=read-write"
            % (first.port, second.port))
-    log = Log(trial, ["join-postgres", "--timeout", "2", "--dsn", dsn], "registry")
+    log = Log(trial, ["join-postgres", *patience(), "--dsn", dsn], "registry")
     log.run("init", "--empty", command=rules_command(1))
     seat, other = log.seats(2, patience=3)
     expect(seat.append() == "kept", seat.said())
@@ -215,14 +216,14 @@ def second_server(trial, kind):
     expect(seat.append("behind it") == "declined" and other.check() == "declined", seat.said(), other.said())
     expect((seat.next, other.next) == (1, 1), "a batch was given that is on one server alone")
     second.go_on()
-    until = time.monotonic() + 60
+    until = time.monotonic() + slow(60)
     while seat.append() != "kept":
         expect(time.monotonic() < until, seat.said())
     seat.wait_until(lambda: any(b"waits" in line for line in seat.log))
     first.crash()
     second.run("pg_ctl", "promote", "-D", second.data)
     second.sql("ALTER SYSTEM SET synchronous_standby_names = ''", "SELECT pg_reload_conf()")
-    until = time.monotonic() + 60
+    until = time.monotonic() + slow(60)
     while seat.append() != "kept":
         expect(time.monotonic() < until, seat.said())
     log.agree([seat, other])

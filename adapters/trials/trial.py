@@ -6,6 +6,7 @@ import subprocess
 import sys
 import tempfile
 
+from pace import look, slow
 from seats import HERE, Seat, agree, expect, whole
 from stores import Brokers, Etcd, Postgres, wait_for
 
@@ -45,6 +46,7 @@ class Trial:
 
     def part(self, adapters=None):
         """A trial within this one, over the same stores."""
+        look()
         return Trial(self.new_folder("case"), adapters or self.adapters, self.stores)
 
     def store(self, kind):
@@ -84,7 +86,7 @@ class Log:
         """Runs an adapter to its end, and gives what it wrote to both outputs."""
         words = [os.path.join(self.trial.adapters, self.words[0]), *self.words[1:], *(["--patience", "1"] if status == 1 else []),
                  do, *more, *(["--", *command] if command else [])]
-        done = subprocess.run(words, input=text, stdout=subprocess.PIPE, stderr=subprocess.PIPE, check=False, timeout=120)
+        done = subprocess.run(words, input=text, stdout=subprocess.PIPE, stderr=subprocess.PIPE, check=False, timeout=slow(120))
         expect(done.returncode == status, do, "status", done.returncode, "in place of", status, done.stderr.decode()[-2000:])
         return done.stdout, done.stderr.decode()
 

@@ -1,16 +1,18 @@
 """Requests a second of a node that serves on loopback, beside nginx with the same bytes: rates.py PROGRAM [SECONDS [ROUNDS]].
 
-For 1, 4 and 8 connections with keep-alive: PROGRAM serve PORT 1 CONNECTIONS, and nginx with as many workers, which
-answers the same head and body from memory (`return 200`). Each round runs the one and then the other under wrk. The
-medians of the rounds are shown, then the same while a writer registers schemas. wrk and nginx have to be there."""
+For 1, 8, 64 and 256 connections with keep-alive: PROGRAM serve PORT 1 WORKERS, one more than there are connections but at most 16,
+and nginx with as many workers, which answers the same head and body from memory (`return 200`). Each round runs the one and then the
+other under wrk. The medians of the rounds are shown, then the same of a latest version whose schema has 10 kB beside nginx, which
+sends that body as a file, then the node while a writer registers schemas. wrk and nginx have to be there."""
 import http.client, json, os, re, shutil, signal, socket, statistics, subprocess, sys, tempfile, threading, time
 
 PROGRAM, SECONDS, ROUNDS = sys.argv[1], int((sys.argv + ["5"])[2]), int((sys.argv + ["5", "3"])[3])
 PORT, NGINX = 19300, 19390
+LATEST = "/subjects/large/versions/latest"
 
 
-def schema(n):
-    fields = [{"name": "f%02d" % k, "type": "string", "doc": "the field of number %02d" % k} for k in range(16)]
+def schema(n, count=16):
+    fields = [{"name": "f%02d" % k, "type": "string", "doc": "the field of number %02d" % k} for k in range(count)]
     text = json.dumps({"type": "record", "name": "R%d" % n, "fields": fields}, separators=(",", ":"))
     return text
 
@@ -43,16 +45,19 @@ def raw_response(port, target):
         out += piece
 
 
-def start_nginx(workers, body, content_type):
+def start_nginx(workers, body, content_type, file):
     folder = tempfile.mkdtemp()
+    os.chmod(folder, 0o755)
+    open(folder + "/latest", "wb").write(file)
     quoted = body.decode().replace("\\", "\\\\").replace("'", "\\'")
     open(folder + "/nginx.conf", "w").write("""
 worker_processes %d; daemon off; pid %s/pid; error_log stderr crit;
 events { worker_connections 512; }
 http { access_log off; keepalive_requests 100000000; keepalive_timeout 600; server_tokens off; tcp_nodelay on;
 client_body_temp_path %s/a; proxy_temp_path %s/b; fastcgi_temp_path %s/c; uwsgi_temp_path %s/d; scgi_temp_path %s/e;
-server { listen 127.0.0.1:%d reuseport; location = /schemas/ids/1 { default_type '%s'; return 200 '%s'; } } }
-""" % (workers, folder, folder, folder, folder, folder, folder, NGINX, content_type, quoted))
+server { listen 127.0.0.1:%d reuseport; location = /schemas/ids/1 { default_type '%s'; return 200 '%s'; }
+location = %s { default_type '%s'; alias %s/latest; } } }
+""" % (workers, folder, folder, folder, folder, folder, folder, NGINX, content_type, quoted, LATEST, content_type, folder))
     p = subprocess.Popen(["nginx", "-p", folder, "-c", folder + "/nginx.conf"], stderr=subprocess.DEVNULL)
     wait_for(NGINX)
     return p, folder
@@ -100,21 +105,32 @@ class Writer(threading.Thread):
         c.close()
 
 
-for connections in (1, 4, 8):
-    server = subprocess.Popen([PROGRAM, "serve", str(PORT), "1", str(connections + 1)], stdout=subprocess.DEVNULL)
+for connections in (1, 8, 64, 256):
+    workers = min(connections + 1, 16)
+    server = subprocess.Popen([PROGRAM, "serve", str(PORT), "1", str(workers)], stdout=subprocess.DEVNULL)
     wait_for(PORT)
     register(PORT, "s", schema(0))
+    register(PORT, "large", schema(1_000_000, 155))
     response = raw_response(PORT, b"/schemas/ids/1")
     head, body = response.split(b"\r\n\r\n", 1)
+    latest = raw_response(PORT, LATEST.encode()).split(b"\r\n\r\n", 1)[1]
     content_type = re.search(rb"(?i)content-type: ([^\r]*)", head).group(1).decode()
-    nginx, folder = start_nginx(connections, body, content_type)
+    nginx, folder = start_nginx(workers, body, content_type, latest)
     assert raw_response(NGINX, b"/schemas/ids/1").split(b"\r\n\r\n", 1)[1] == body
-    print("%d connections; a schema of %d bytes, a response of %d" % (connections, len(schema(0)), len(response)))
-    ours, theirs, busy = [], [], []
-    for _ in range(ROUNDS):
-        ours.append(wrk(PORT, connections, server.pid))
-        theirs.append(wrk(NGINX, connections, nginx.pid))
-    a, b = show("the node", ours), show("nginx", theirs)
+    assert raw_response(NGINX, LATEST.encode()).split(b"\r\n\r\n", 1)[1] == latest
+    print("%d connections, %d workers; a schema of %d bytes, a response of %d; a latest version of %d" % (
+        connections, workers, len(schema(0)), len(response), len(latest)))
+    for target, peer in (("/schemas/ids/1", "nginx from memory"), (LATEST, "nginx with that file")):
+        ours, theirs = [], []
+        for _ in range(ROUNDS):
+            ours.append(wrk(PORT, connections, server.pid, target))
+            theirs.append(wrk(NGINX, connections, nginx.pid, target))
+        a, b = show("the node, " + target[:20], ours), show(peer, theirs)
+        if target != LATEST:
+            small = a
+        print("  the node is at %.2f of nginx, by its processor time for each at %.2f" % (
+            a / b, statistics.median(r[3] for r in theirs) / statistics.median(r[3] for r in ours)), flush=True)
+    busy = []
     writer = Writer()
     writer.start()
     for _ in range(ROUNDS):
@@ -122,7 +138,7 @@ for connections in (1, 4, 8):
     writer.stop = True
     writer.join()
     c = show("the node, while %d are registered" % writer.n, busy)
-    print("  the node is at %.2f of nginx, and at %.2f of itself under writes" % (a / b, c / a), flush=True)
+    print("  at %.2f of itself under writes" % (c / small), flush=True)
     for p in (server, nginx):
         p.send_signal(signal.SIGTERM)
         p.wait()

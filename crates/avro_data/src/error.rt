@@ -2,10 +2,10 @@
 use std::alloc::AllocError;
 use thiserror::Error;
 
-/// Why no sample is given.
+/// An error of `sample`.
 #[derive(Clone, Copy, Debug, PartialEq, Eq, Error)]
 pub enum SampleError {
-    /// It has more than `PARTS_LIMIT` parts or more than `LEVELS_LIMIT` levels.
+    /// The sample has more than `PARTS_LIMIT` parts or more than `LEVELS_LIMIT` levels.
     #[error("TooLarge")]
     TooLarge,
     #[error("out of memory")]

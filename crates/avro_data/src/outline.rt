@@ -4,19 +4,19 @@ ghost use Rattle.avro_data.specs.Outlines as spec;
 
 use crate::limits::{LEVELS_LIMIT, PARTS_LIMIT};
 
-/// How large a value is, and which branch it is. Counting stops at one above a limit.
+/// The outline of a value: its size, and its branch. Counting stops at one above a limit.
 #[derive(Clone, Copy)]
 pub(crate) struct Outline {
-    /// The number of its parts, itself counted, at most `PARTS_LIMIT + 1`.
+    /// The number of its parts, itself included, at most `PARTS_LIMIT + 1`.
     pub parts: usize,
     /// The number of its levels, at most `LEVELS_LIMIT + 1`.
     pub levels: usize,
-    /// The number of its branch where it is one of a union, else 0.
+    /// The number of its branch if it is a union's value, else 0.
     pub branch: usize,
 }
 
 impl Outline {
-    /// That of a value with nothing inside.
+    /// Makes the outline of a value with nothing inside.
     pub fn leaf() -> Outline
         ensures { result ≡ spec.single }
     {
@@ -27,7 +27,7 @@ impl Outline {
         }
     }
 
-    /// That of a record's fields before the first.
+    /// Makes the outline of a record's fields before the first.
     pub fn nothing() -> Outline
         ensures { result ≡ spec.nothing }
     {
@@ -38,7 +38,7 @@ impl Outline {
         }
     }
 
-    /// That of one more field beside those before it.
+    /// Adds the outline of one more field.
     pub fn beside(self, field: Outline) -> Outline
         ensures { result ≡ spec.beside self field }
     {
@@ -49,7 +49,7 @@ impl Outline {
         }
     }
 
-    /// That of the value around it, which is of that branch.
+    /// Makes the outline of the value around this one, which is of that branch.
     pub fn around(self, branch: usize) -> Outline
         ensures { result ≡ spec.around branch self }
     {
@@ -60,7 +60,7 @@ impl Outline {
         }
     }
 
-    /// Whether the value is too large.
+    /// Returns whether the value is over a limit.
     pub fn is_too_large(&self) -> bool
         ensures { result ≡ spec.is_over self.now }
     {
@@ -68,7 +68,7 @@ impl Outline {
     }
 }
 
-/// When a type is given its sample, and the sample's outline.
+/// The round in which a type is given its sample, and the sample's outline.
 #[derive(Clone, Copy)]
 pub(crate) struct Given {
     /// The round in which it is given, counted from 1.

@@ -9,9 +9,9 @@ use std::marker::Model;
 /// A piece of a text.
 #[derive(Drop)]
 pub enum Piece {
-    /// A text of the program's own.
+    /// A fixed text of the program.
     Fixed(&'static str),
-    /// A text that others have too.
+    /// A text that is shared with others.
     Shared(Text),
     /// A number, in decimal digits.
     Number(usize),
@@ -35,7 +35,7 @@ impl Model for PiecedText {
 }
 
 impl PiecedText {
-    /// The empty text, which takes no memory.
+    /// Makes an empty text, which takes no memory.
     pub fn new(alloc: Global) -> PiecedText
         ensures { result ≡ [] }
     {
@@ -44,21 +44,21 @@ impl PiecedText {
         }
     }
 
-    /// The pieces, in their order.
+    /// Returns the pieces, in their order.
     pub fn as_slice(&self) -> &[Piece]
         ensures { pieces_text result.now ≡ self.now }
     {
         &self.items
     }
 
-    /// Appends a text of the program's own. The only error is out of memory.
+    /// Appends a fixed text of the program. The only error is out of memory.
     pub fn push_fixed(&mut self, text: &'static str) -> Result<(), AllocError>
         ensures { OnOk result (self.new ≡ self.old ++ text.now) }
     {
         push(&mut self.items, Piece::Fixed(text))
     }
 
-    /// Appends a text, and shares it. The only error is out of memory.
+    /// Appends a text, which is shared and not copied. The only error is out of memory.
     pub fn push_shared(&mut self, text: &Text) -> Result<(), AllocError>
         ensures { OnOk result (self.new ≡ self.old ++ text.now) }
     {

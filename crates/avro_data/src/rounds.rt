@@ -11,7 +11,8 @@ use avro_schema::{Field, Node, NodeId, Schema};
 use base_text::Text;
 use std::alloc::{AllocError, Global};
 
-/// In which round each type is given its sample, if it is, and the outlines of the samples.
+/// Returns for each type the round in which it is given its sample, if it is, and the sample's
+/// outline.
 ///
 /// Each round looks only at the types that use one which the round before gave its sample.
 pub(crate) fn all_rounds(alloc: Global, schema: &Schema) -> Result<Vec<Option<Given>>, AllocError>
@@ -51,8 +52,8 @@ fn all_types(alloc: Global, count: usize) -> Result<Vec<NodeId>, AllocError>
     Ok(ids)
 }
 
-/// Gives their samples to those candidates that have none yet and are ready, in the round after
-/// that one. Returns which they are.
+/// Gives samples in the next round to those candidates that have none yet and are ready. Returns
+/// those candidates.
 fn give(
     alloc: Global,
     schema: &Schema,
@@ -81,7 +82,7 @@ fn give(
     Ok(given)
 }
 
-/// The outline of a type's sample, where it has none yet and is ready.
+/// Returns the outline of a type's sample if it has none yet and is ready.
 fn outline_now(
     schema: &Schema,
     table: &[Option<Given>],
@@ -96,7 +97,7 @@ fn outline_now(
     }
 }
 
-/// The outline of a type's sample by those that are given by that round, if they are enough.
+/// Returns the outline of a type's sample from those given by that round, if they suffice.
 fn outline_of(table: &[Option<Given>], round: usize, node: Option<&Node>) -> Option<Outline>
     ensures { result ≡ outlined (spec.by_table table.now round) (option_copied node.entry) }
 {
@@ -121,7 +122,7 @@ pub(crate) fn first_symbol(symbols: &[Text]) -> Option<&Text>
     symbols.first()
 }
 
-/// That of all fields together, before the record around them is counted.
+/// Returns the outline of all fields together, without the record around them.
 fn outline_of_fields(table: &[Option<Given>], round: usize, fields: &[Field]) -> Option<Outline>
     ensures { result ≡ outlined_fields (spec.by_table table.now round) no_fields fields.now }
 {
@@ -135,7 +136,7 @@ fn outline_of_fields(table: &[Option<Given>], round: usize, fields: &[Field]) ->
     Some(inside)
 }
 
-/// That of the first branch that has a sample.
+/// Returns the outline of the first branch that has a sample.
 fn outline_of_branches(
     table: &[Option<Given>],
     round: usize,
@@ -151,7 +152,7 @@ fn outline_of_branches(
     None
 }
 
-/// The outline of the sample that a type is given by that round.
+/// Returns the outline of the sample that a type was given by that round.
 fn outline_by(table: &[Option<Given>], round: usize, id: NodeId) -> Option<Outline>
     ensures { result ≡ spec.by_table table.now round id }
 {

@@ -10,8 +10,8 @@ use std::collections::BTreeMap;
 
 impl Data {
     /// Appends the value's text: `leaf`, a symbol, `[a,b]`, `{KEY=a}` in byte order of the keys,
-    /// `#k a` for branch `k`, `(NAME=a,NAME=b)`, `default`. Keys and symbols stand as they are, so
-    /// it is a text for people. The only error is out of memory.
+    /// `#k a` for branch `k`, `(NAME=a,NAME=b)`, `default`. Keys and symbols aren't quoted, so it
+    /// is a text for people. The only error is out of memory.
     pub fn push_text(&self, out: &mut PiecedText) -> Result<(), AllocError>
         ensures { OnOk result (out.new ≡ out.old ++ value_text (view self.now)) }
     {
@@ -51,7 +51,7 @@ fn push_value(out: &mut PiecedText, given: &Data) -> Result<(), AllocError>
     }
 }
 
-/// The items, with commas between them.
+/// Appends the items, with commas between them.
 #[cycle(text)]
 fn push_items(out: &mut PiecedText, items: &Vec<Data>) -> Result<(), AllocError>
     ensures { OnOk result (out.new ≡ out.old ++ values_text true (values_view items.now.items)) }
@@ -65,7 +65,7 @@ fn push_items(out: &mut PiecedText, items: &Vec<Data>) -> Result<(), AllocError>
     Ok(())
 }
 
-/// The keys and their values, with commas between them.
+/// Appends the keys and their values, with commas between them.
 #[cycle(text)]
 fn push_values(out: &mut PiecedText, members: &BTreeMap<Text, Data>) -> Result<(), AllocError>
     ensures { OnOk result (out.new ≡ out.old ++ members_text true (members_view members.now.entries)) }
@@ -79,7 +79,7 @@ fn push_values(out: &mut PiecedText, members: &BTreeMap<Text, Data>) -> Result<(
     Ok(())
 }
 
-/// The names and their values, with commas between them.
+/// Appends the names and their values, with commas between them.
 #[cycle(text)]
 fn push_fields(out: &mut PiecedText, members: &Vec<(Text, Data)>) -> Result<(), AllocError>
     ensures { OnOk result (out.new ≡ out.old ++ members_text true (members_view members.now.items)) }
@@ -93,7 +93,7 @@ fn push_fields(out: &mut PiecedText, members: &Vec<(Text, Data)>) -> Result<(), 
     Ok(())
 }
 
-/// A comma, but before the first.
+/// Appends a comma, unless this is the first.
 fn push_comma(out: &mut PiecedText, is_first: bool) -> Result<(), AllocError>
     ensures { OnOk result (out.new ≡ out.old ++ comma_before is_first) }
 {

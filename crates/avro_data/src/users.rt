@@ -6,7 +6,8 @@ ghost use Rattle.avro_data.specs.Users as spec;
 use avro_schema::{Node, NodeId, Schema};
 use std::alloc::{AllocError, Global};
 
-/// For each type the records that have a field of it and the unions that have it as a branch.
+/// Returns for each type the records that have a field of it and the unions that have it as a
+/// branch.
 pub(crate) fn users(alloc: Global, schema: &Schema) -> Result<Vec<Vec<NodeId>>, AllocError>
     ensures { IfOk result (λ users. spec.AreUsers schema.now.nodes users.items) }
 {
@@ -76,7 +77,7 @@ fn add(list: &mut Vec<NodeId>, id: NodeId) -> Result<(), AllocError>
     Ok(())
 }
 
-/// The users of those types.
+/// Returns the users of those types.
 pub(crate) fn users_of(
     alloc: Global,
     users: &[Vec<NodeId>],
@@ -93,7 +94,7 @@ pub(crate) fn users_of(
     once_each(alloc, found)
 }
 
-/// The ids in order, each once.
+/// Returns the ids in order, each once.
 fn once_each(alloc: Global, mut ids: Vec<NodeId>) -> Result<Vec<NodeId>, AllocError>
     ensures { IfOk result (λ once. (i : NodeId) → Contains ids.items i → Contains once.items i) }
 {

@@ -11,8 +11,8 @@ use avro_resolve::named_list::NamedList;
 use avro_resolve::{Pair, partner};
 use std::alloc::{AllocError, Global};
 
-/// For each of the writer's fields the reader's types that read it, where these types of the
-/// reader's read the writer's record. None where one of them doesn't read it as a record.
+/// Returns, for each field of the writer's record, the reader's types that read it, if these types
+/// of the reader's read that record; `None` if one of them doesn't read it as a record.
 pub fn asked_of(
     alloc: Global,
     r: &Schema,
@@ -39,7 +39,7 @@ pub fn asked_of(
     Ok(Some(asked))
 }
 
-/// The numbers, each once.
+/// Returns the numbers, each once.
 pub fn each_once(alloc: Global, numbers: &[usize]) -> Result<Vec<usize>, AllocError>
     ensures { IfOk result (λ found. (test : ℕ → Bool) → list_all test found.items ≡ list_all test numbers.now) }
 {

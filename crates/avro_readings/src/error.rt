@@ -2,16 +2,16 @@
 use std::alloc::AllocError;
 use thiserror::Error;
 
-/// Why a value has no reading.
+/// An error of `read_data`.
 #[derive(Clone, Copy, Debug, PartialEq, Eq, Error)]
 pub enum ReadError {
-    /// It is no value of the writer's schema.
+    /// The value isn't one of the writer's schema.
     #[error("Unfit")]
     Unfit,
-    /// It is one, and the reader can't read it.
+    /// The value is one of the writer's schema, and the reader can't read it.
     #[error("Unreadable")]
     Unreadable,
-    /// It has a reading, of more than [`avro_data::PARTS_LIMIT`] parts or more than
+    /// The value has a reading, of more than [`avro_data::PARTS_LIMIT`] parts or more than
     /// [`avro_data::LEVELS_LIMIT`] levels.
     #[error("TooLarge")]
     TooLarge,

@@ -7,7 +7,7 @@ use avro_resolve::avro_schema::Field;
 use avro_resolve::base_text::Text;
 use avro_resolve::named_list::NamedList;
 
-/// Whether members have the names of these fields, in their order.
+/// Returns whether the members have the names of these fields, in their order.
 pub fn are_named(fields: &[Field], members: &[(Text, Data)]) -> bool
     ensures { IsTrue result → map (λ (f : Field). f.name) fields.now ≡ map (λ m. m.0) members.now }
 {
@@ -28,8 +28,8 @@ fn is_named(field: &Field, member: &(Text, Data)) -> bool
     field.name == member.0
 }
 
-/// The place of the first member of that name. It is that of the field of the name, where the members
-/// are told to have the fields' names.
+/// Returns the place of the first member of that name. If `are_fields` says that the members have
+/// the fields' names, it is the place of the field.
 pub fn place_named(
     fields: &NamedList<Field>,
     members: &[(Text, Data)],

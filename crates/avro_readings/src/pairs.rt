@@ -17,7 +17,7 @@ use avro_resolve::base_text::Text;
 use avro_resolve::named_list::NamedList;
 use avro_resolve::{Cause, Pair, Row, first_lacking, matches, row_at};
 
-/// Whether no value can be read at this pair.
+/// Returns whether no value can be read at this pair of types.
 pub fn is_barred(r: &Schema, w: &Schema, pair: Pair) -> bool
     ensures { result ≡ spec.bars (clash_of r.now.nodes w.now.nodes pair) }
 {
@@ -48,7 +48,7 @@ fn bars(row: Row<'_>) -> bool
     }
 }
 
-/// The branch of that number, if this is a union that has it.
+/// Returns the branch of that number, counted from 0, if the node is a union that has it.
 pub fn branch_at(node: Option<&Node>, k: usize) -> Option<NodeId>
     ensures { result ≡ spec.branch_at (option_copied node.entry) k }
 {
@@ -64,7 +64,7 @@ fn branch_in(branches: &[NodeId], k: usize) -> Option<NodeId>
     branches.get(k).copied()
 }
 
-/// The first branch of the reader's union that matches, with its number.
+/// Returns the first branch of the reader's union that matches the writer's type, with its number.
 pub fn first_matching(
     r: &Schema,
     branches: &[NodeId],
@@ -91,7 +91,8 @@ fn is_match(r: &Schema, i: NodeId, w: &Schema, j: NodeId) -> bool
     }
 }
 
-/// The reader's type at a pair, behind its union. None where no value can be read there.
+/// Returns the reader's type at a pair, that of the matching branch if it is a union; `None` if no
+/// value can be read there.
 pub fn row_type(r: &Schema, w: &Schema, pair: Pair) -> Option<NodeId>
     ensures { result ≡ readable.row_type r.now.nodes w.now.nodes pair }
 {
@@ -123,7 +124,7 @@ fn branch_type(r: &Schema, branches: &[NodeId], w: &Schema, pair: Pair) -> Optio
     }
 }
 
-/// Whether both types have leaves.
+/// Returns whether both types have leaves as values.
 pub fn both_leaves(reader: Option<&Node>, writer: Option<&Node>) -> bool
     ensures { result ≡ steps.both_leaves (option_copied reader.entry) (option_copied writer.entry) }
 {
@@ -134,7 +135,7 @@ pub fn both_leaves(reader: Option<&Node>, writer: Option<&Node>) -> bool
     }
 }
 
-/// What two arrays are of.
+/// Returns the item types of two arrays.
 pub fn items_at(reader: Option<&Node>, writer: Option<&Node>) -> Option<Pair>
     ensures { result ≡ steps.items_at (option_copied reader.entry) (option_copied writer.entry) }
 {
@@ -150,7 +151,7 @@ pub fn items_at(reader: Option<&Node>, writer: Option<&Node>) -> Option<Pair>
     }
 }
 
-/// What two maps are to.
+/// Returns the value types of two maps.
 pub fn values_at(reader: Option<&Node>, writer: Option<&Node>) -> Option<Pair>
     ensures { result ≡ steps.values_at (option_copied reader.entry) (option_copied writer.entry) }
 {
@@ -166,14 +167,14 @@ pub fn values_at(reader: Option<&Node>, writer: Option<&Node>) -> Option<Pair>
     }
 }
 
-/// The field at a place, if there is one.
+/// Returns the field at a place, if there is one.
 pub fn record_field_at(fields: &[Field], k: usize) -> Option<&Field>
     ensures { option_copied result ≡ slice_get fields.now k }
 {
     fields.get(k)
 }
 
-/// What two arrays are of, or two maps are to, on the reader's side.
+/// Returns the reader's item type of two arrays, or its value type of two maps.
 pub fn inner_at(reader: Option<&Node>, writer: Option<&Node>) -> Option<NodeId>
     ensures { result ≡ readable.inner_at (option_copied reader.entry) (option_copied writer.entry) }
 {
@@ -190,7 +191,7 @@ pub fn inner_at(reader: Option<&Node>, writer: Option<&Node>) -> Option<NodeId>
     }
 }
 
-/// The fields of two records, the reader's first.
+/// Returns the fields of two records, the reader's first.
 pub fn fields_at<'a>(
     reader: Option<&'a Node>,
     writer: Option<&'a Node>,
@@ -206,7 +207,7 @@ pub fn fields_at<'a>(
     }
 }
 
-/// The symbol as the reader has it: itself, or the reader's default.
+/// Returns the symbol as the reader has it: itself, or else the reader's default, if it has one.
 pub fn symbol_at<'a>(
     reader: Option<&'a Node>,
     writer: Option<&Node>,

@@ -23,7 +23,8 @@ use avro_resolve::named_list::NamedList;
 use std::alloc::{AllocError, Global};
 use std::collections::BTreeMap;
 
-/// Whether a value of the writer's schema has a reading.
+/// Returns whether a value of the writer's schema has a reading, without making it. The only error
+/// is out of memory.
 pub fn can_read(alloc: Global, r: &Schema, w: &Schema, given: &Data) -> Result<bool, AllocError>
     requires { fits w.now.nodes roots.writer (view given.now) ≡ true }
     ensures { IfOk result (λ yes. yes ≡ is_some (reading.reads r.now.nodes w.now.nodes roots (view given.now))) }
@@ -31,7 +32,7 @@ pub fn can_read(alloc: Global, r: &Schema, w: &Schema, given: &Data) -> Result<b
     can_all_read(alloc, r, w, &[r.root().index], w.root(), given)
 }
 
-/// Whether each of these types of the reader's reads a value of the writer's type.
+/// Returns whether each of these types of the reader's reads a value of the writer's type.
 #[cycle(can_all_read)]
 fn can_all_read(
     alloc: Global,

@@ -27,12 +27,14 @@ use avro_resolve::{Pair, partner};
 use std::alloc::Global;
 use std::collections::BTreeMap;
 
-/// What a reader makes of a value that was written (Avro 1.11, "Schema Resolution").
+/// Returns what a reader with schema `r` makes of a value that was written with schema `w` (Avro
+/// 1.11, "Schema Resolution").
 ///
-/// A reader's union tells the number of its own branch, and a field that has nothing to read is
-/// `Default`. Where the two schemas are compatible, no value of the writer's schema is refused as
-/// `Unreadable`. Of a reading that is too large no more than the limit is ever made. `OutOfMemory` comes
-/// where memory is refused; names, keys and symbols take none, since they are shared with `r` and `given`.
+/// A value of a reader's union has the number of the reader's branch, and a field for which nothing
+/// was written is `Default`. If the two schemas are compatible, the error is never `Unreadable`. Of
+/// a reading that is too large no more than the limits is built. `OutOfMemory` is returned if
+/// memory is refused; names, keys and symbols take none, since they are shared with `r` and
+/// `given`.
 pub fn read_data(alloc: Global, r: &Schema, w: &Schema, given: &Data) -> Result<Data, ReadError>
     ensures ok { IfOk result (λ read. IsRead r.now.nodes w.now.nodes (view given.now) (view read)) }
     ensures refused { IfErr result (IsReadRefusal r.now.nodes w.now.nodes (view given.now)) }
@@ -63,7 +65,7 @@ pub fn read_data(alloc: Global, r: &Schema, w: &Schema, given: &Data) -> Result<
     }
 }
 
-/// The reading of a value at a pair of types.
+/// Makes the reading of a value at a pair of types.
 #[cycle(read)]
 fn read(
     alloc: Global,
@@ -96,7 +98,7 @@ fn read(
     }
 }
 
-/// Through the reader's type, where it is a union.
+/// Makes the reading, through the matching branch if the reader's type is a union.
 #[cycle(read)]
 fn read_inside(
     alloc: Global,
@@ -118,7 +120,7 @@ fn read_inside(
     }
 }
 
-/// By the first branch of the reader's union that matches.
+/// Makes the reading by the first branch of the reader's union that matches.
 #[cycle(read)]
 fn read_branch(
     alloc: Global,
@@ -149,7 +151,7 @@ fn read_branch(
     Ok(Data::Branch(k, Box::new(alloc, inner)?))
 }
 
-/// At a pair of types that are no unions.
+/// Makes the reading at a pair of types that are no unions, and takes the room of the value itself.
 #[cycle(read)]
 fn read_row(
     alloc: Global,
@@ -169,7 +171,8 @@ fn read_row(
     Ok(found)
 }
 
-/// The same, where the room of the value itself is taken.
+/// Makes the reading at a pair of types that are no unions, once the room of the value itself is
+/// taken.
 #[cycle(read)]
 fn read_parts(
     alloc: Global,
@@ -258,7 +261,7 @@ fn read_values(
     Ok(done)
 }
 
-/// The reader's fields, by those that the writer wrote.
+/// Makes the readings of the reader's fields from those that the writer wrote.
 #[cycle(read)]
 fn read_fields(
     alloc: Global,
@@ -283,8 +286,8 @@ fn read_fields(
     Ok(done)
 }
 
-/// A reader's field: the writer's that it is paired with, or its default. Whether the members have the
-/// names of the writer's fields is reported.
+/// Makes the reading of one reader's field: from the writer's field that it is paired with, or its
+/// default. `are_fields` says whether the members have the names of the writer's fields.
 #[cycle(read)]
 fn read_field(
     alloc: Global,
@@ -327,7 +330,7 @@ fn read_field(
     }
 }
 
-/// The value that was written under that name.
+/// Makes the reading of the value that was written under that name.
 #[cycle(read)]
 fn read_named(
     alloc: Global,

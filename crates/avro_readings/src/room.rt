@@ -5,25 +5,25 @@ ghost use Rattle.avro_data.specs.declared.limits.TheConstants.{PARTS_LIMIT, LEVE
 use avro_data::{LEVELS_LIMIT, PARTS_LIMIT};
 use std::alloc::{AllocError, AllocFailed};
 
-/// How many parts may still be made, and in how many levels from here.
+/// The room for a reading: how many parts may still be made, and how many levels from here.
 #[derive(Clone, Copy, Debug, PartialEq, Eq)]
 pub struct Room {
     pub parts: usize,
     pub levels: usize,
 }
 
-/// Why no reading was made.
+/// An error of making a reading within its room.
 #[derive(Clone, Copy, Debug, PartialEq, Eq)]
 pub enum Halt {
-    /// There is none.
+    /// No reading exists.
     Unreadable,
-    /// There is no room for it, if there is one.
+    /// The reading has no room, if one exists.
     TooLarge,
     OutOfMemory,
 }
 
 impl Room {
-    /// That of a whole reading.
+    /// Makes the room of a whole reading: `PARTS_LIMIT` parts and `LEVELS_LIMIT` levels.
     pub fn whole() -> Room
         ensures { result ≡ record { parts = PARTS_LIMIT; levels = LEVELS_LIMIT } }
     {
@@ -33,7 +33,8 @@ impl Room {
         }
     }
 
-    /// Takes the room of one part, and goes into it: a level down.
+    /// Takes the room of one part, and goes a level down. Returns `TooLarge` if no part or level is
+    /// left.
     pub fn enter(&mut self) -> Result<(), Halt>
         ensures entered { OnOk result ((self.new.parts + 1 ≡ self.old.parts) × (self.new.levels + 1 ≡ self.old.levels)) }
         ensures below { OnOk result (self.new.levels < usize.MAX) }

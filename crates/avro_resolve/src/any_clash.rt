@@ -1,4 +1,4 @@
-// Whether any clash can be reached, by a search that keeps but two bits of a pair: no trail, and no order.
+// Whether any clash can be reached: a search that keeps two bits for each pair, and no trails.
 ghost use Rattle.std.specs.Prelude.{◌≡◌, ◌<◌, ◌≤◌, ℕ, ◌==◌, ◌*◌, ◌^◌, true, Some, All, length, IfOk, IfSome, OnOk};
 ghost use Rattle.avro_resolve.specs.Worklist.{is_met, waits, IsOrderly};
 ghost use Rattle.avro_resolve.specs.AnyClash.{HaveMet};
@@ -16,8 +16,8 @@ use crate::worklist::Worklist;
 use avro_schema::{NodeId, Schema};
 use std::alloc::{AllocError, Global};
 
-/// How many pairs can be reached, if none of them clashes. Schemas with more pairs than there are
-/// numbers aren't searched.
+/// Returns the number of reachable pairs if none of them clashes. `None` if one does, or if the
+/// schemas have too many pairs to number. The only error is out of memory.
 #[cold]
 #[inline(never)]
 pub fn pairs_without_clash<'a>(
@@ -46,8 +46,8 @@ pub fn pairs_without_clash<'a>(
     }
 }
 
-/// Looks up all pairs that can be reached from the roots, by their numbers. Gives how many they are
-/// if none of them clashes.
+/// Looks up all pairs that can be reached from the roots, by number. Returns how many there are if
+/// none of them clashes.
 fn look_up_all<'a>(
     alloc: Global,
     r: &'a Schema,
@@ -84,7 +84,7 @@ fn look_up_all<'a>(
     Ok(Some(pairs))
 }
 
-/// Meets pairs, by their numbers.
+/// Adds pairs to the worklist, by number.
 fn meet_all(
     worklist: &mut Worklist,
     r: &Schema,
@@ -105,7 +105,8 @@ fn meet_all(
     Ok(())
 }
 
-/// A pair's number: the pairs with the reader's first type come first, then those with its second.
+/// Returns a pair's number. The pairs with the reader's first type come first, then those with its
+/// second.
 fn number_of(_r: &Schema, w: &Schema, pair: Pair) -> usize
     requires within { IsPairOf _r.now.nodes w.now.nodes pair }
     requires small { length _r.now.nodes * length w.now.nodes < 2 ^ 64 }
@@ -115,7 +116,7 @@ fn number_of(_r: &Schema, w: &Schema, pair: Pair) -> usize
     pair.reader.index * w.node_count() + pair.writer.index
 }
 
-/// The pair of that number.
+/// Returns the pair of that number.
 fn pair_of(_r: &Schema, w: &Schema, number: usize) -> Pair
     requires { number < length _r.now.nodes * length w.now.nodes }
     ensures within { IsPairOf _r.now.nodes w.now.nodes result }

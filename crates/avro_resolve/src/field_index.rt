@@ -1,4 +1,5 @@
-// Which fields of a reader's record have a partner among a writer's fields, found from the writer's side.
+// Indexes of the reader's records, which find the fields that have a partner from the writer's
+// side.
 ghost use Rattle.std.specs.Prelude.{◌≡◌, ◌≢◌, ◌+◌, ◌++◌, ℕ, List, Some, IsTrue, length, map, slice_get, IfOk, IfSome, OnOk};
 ghost use Rattle.avro_schema.specs.declared.node.Node.{Node as SpecNode};
 ghost use Rattle.avro_schema.specs.Sound.{HaveDistinctNames};
@@ -9,47 +10,47 @@ use base_text::Text;
 use std::alloc::{AllocError, Global};
 use std::collections::{BTreeMap, BTreeSet};
 
-/// Up to how many fields, and aliases of each, all are looked at.
+/// The most fields, and aliases of each, of a record that is searched without an index.
 const FEW: usize = 16;
 
-/// A field by its number, and a place among its names: 0 is that of its own name, and its aliases
-/// come after it.
+/// A field's number, and a position among its names: 0 is its own name, and its aliases follow.
 #[derive(Clone, Copy, PartialEq, Eq, PartialOrd, Ord, Drop)]
 pub struct Holder {
     pub field: usize,
     pub rank: usize,
 }
 
-/// A reader's field with one of its names, and the place of the writer's field of that name; or with
-/// a place after its names, and one after the writer's fields.
+/// A reader's field with one of its names, and the position of the writer's field of that name. If
+/// it is listed for having no default, the first position is after its names, and the other after
+/// the writer's fields.
 #[derive(Clone, Copy, PartialEq, Eq, PartialOrd, Ord, Drop)]
 pub struct FoundField {
     pub holder: Holder,
     pub place: usize,
 }
 
-/// The fields of a reader's record by their names.
+/// The index of a reader's record: its fields by their names.
 #[derive(Drop)]
 pub struct FieldIndex<'a> {
-    /// The fields without default, each with a place after its names.
+    /// The fields without a default, each with a position after its names.
     pub others: Vec<Holder>,
-    /// At each name the fields that have it.
+    /// For each name, the fields that have it.
     pub holders: BTreeMap<&'a Text, Vec<Holder>>,
-    /// How many names there are, an alias as often as it is written.
+    /// The number of names, counting an alias as often as it is written.
     names: usize,
 }
 
-/// The field indexes of records of the reader's, by their numbers.
+/// The field indexes of the reader's records, by the numbers of their nodes.
 #[derive(Drop)]
 pub struct FieldIndexes<'a> {
     memory: Global,
-    /// The records that were looked at.
+    /// The records that were looked at before.
     met: BTreeSet<usize>,
     pub of: BTreeMap<usize, FieldIndex<'a>>,
 }
 
 impl<'a> FieldIndexes<'a> {
-    /// None so far.
+    /// Makes an empty set of field indexes.
     pub fn none(memory: Global) -> FieldIndexes<'a>
         ensures { (r : List SpecNode) → spec.AreFieldIndexes r result.of }
     {
@@ -60,12 +61,12 @@ impl<'a> FieldIndexes<'a> {
         }
     }
 
-    /// Where memory is taken from.
+    /// Returns the allocator.
     pub fn memory(&self) -> Global {
         self.memory
     }
 
-    /// The field index of the reader's record of that id.
+    /// Returns the field index of the reader's record of that id, if one was made.
     pub fn of_record(&self, _r: &Schema, id: NodeId) -> Option<&FieldIndex<'a>>
         requires { spec.AreFieldIndexes _r.now.nodes self.now.of }
         ensures { IfSome result (λ field_index. spec.IsFieldIndex (spec.fields_in (slice_get _r.now.nodes id.index)) field_index.now) }
@@ -73,8 +74,9 @@ impl<'a> FieldIndexes<'a> {
         self.of.get(&id.index)
     }
 
-    /// Makes the field index of the reader's record of that id, unless it was made. To make one takes longer
-    /// than to look at all fields, so none is made of a record that is looked at once.
+    /// Notes that the reader's record of that id is looked at, and makes its field index the second
+    /// time. Making one takes longer than looking at all fields once. The only error is out of
+    /// memory.
     pub fn look_at(
         &mut self,
         _r: &Schema,
@@ -93,7 +95,7 @@ impl<'a> FieldIndexes<'a> {
     }
 }
 
-/// The field index of these fields.
+/// Makes the field index of these fields.
 fn field_index_of<'a>(alloc: Global, fields: &'a [Field]) -> Result<FieldIndex<'a>, AllocError>
     ensures { IfOk result (spec.IsFieldIndex fields.now) }
 {
@@ -104,7 +106,7 @@ fn field_index_of<'a>(alloc: Global, fields: &'a [Field]) -> Result<FieldIndex<'
     })
 }
 
-/// How many names fields have.
+/// Returns the number of names that fields have.
 fn names_in(fields: &[Field]) -> usize {
     let mut names = fields.len();
     for f in fields {
@@ -113,7 +115,7 @@ fn names_in(fields: &[Field]) -> usize {
     names
 }
 
-/// The fields that have no default.
+/// Returns the fields that have no default.
 fn others_of(alloc: Global, fields: &[Field]) -> Result<Vec<Holder>, AllocError>
     ensures { IfOk result (λ others. spec.AreOthers fields.now others.items) }
 {
@@ -129,7 +131,7 @@ fn others_of(alloc: Global, fields: &[Field]) -> Result<Vec<Holder>, AllocError>
     Ok(others)
 }
 
-/// At each name the fields that have it.
+/// Returns, for each name, the fields that have it.
 fn holders_of<'a>(
     alloc: Global,
     fields: &'a [Field],
@@ -187,7 +189,7 @@ fn add_name<'a>(
     }
 }
 
-/// Adds a place at which a field has a name, unless the field added last has it too.
+/// Adds a field that has a name, unless it is the field that was added last.
 fn add_holder(kept: &mut Vec<Holder>, holder: Holder) -> Result<(), AllocError>
     ensures { OnOk result (spec.IsAddedTo kept.old.items kept.new.items holder) }
 {
@@ -197,7 +199,7 @@ fn add_holder(kept: &mut Vec<Holder>, holder: Holder) -> Result<(), AllocError>
     Ok(())
 }
 
-/// Whether the last of these is of that field.
+/// Returns whether the last of these is that field.
 fn is_last(kept: &[Holder], field: usize) -> bool
     ensures { IsTrue result → spec.IsAbsent field kept.now → ⊥ }
 {
@@ -207,12 +209,13 @@ fn is_last(kept: &[Holder], field: usize) -> bool
     }
 }
 
-/// Whether a reader's record has many fields, and many more than a writer's; or one of many aliases.
+/// Returns whether a reader's record has many fields, more than four times the writer's, or a field
+/// with many aliases.
 pub fn is_long(reader: &[Field], writer: &[Field]) -> bool {
     reader.len() > FEW && writer.len() < reader.len() / 4 || has_many_aliases(reader)
 }
 
-/// Whether one of the fields has many aliases.
+/// Returns whether one of the fields has many aliases.
 fn has_many_aliases(fields: &[Field]) -> bool {
     for f in fields {
         if f.aliases.as_slice().len() > FEW {
@@ -223,7 +226,7 @@ fn has_many_aliases(fields: &[Field]) -> bool {
 }
 
 impl<'a> FieldIndex<'a> {
-    /// The fields that have a name.
+    /// Returns the fields that have a name.
     fn with_name(&self, name: &'a Text) -> &[Holder]
         ensures { result.now ≡ spec.held self.now.holders name.entry }
     {
@@ -233,16 +236,16 @@ impl<'a> FieldIndex<'a> {
         }
     }
 
-    /// Whether to look at the fields without default and at so many of a writer's takes less than to
-    /// look at all names.
+    /// Returns whether the index saves time against a writer's record of so many fields: both these
+    /// and the reader's fields without a default are few beside the names.
     pub fn is_worth_while(&self, writer: usize) -> bool {
         let many = self.names / 4;
         self.others.len() < many && writer < many
     }
 }
 
-/// The fields that have a name of the writer's, each with each such name, and those without default;
-/// in the order of their numbers, and of one field the first of its names first.
+/// Returns the reader's fields that have a name of the writer's, once for each such name, and those
+/// without a default. They are sorted by number, and for one field by the position of the name.
 pub fn found_fields<'a>(
     alloc: Global,
     _reader: &[Field],
@@ -258,7 +261,7 @@ pub fn found_fields<'a>(
     Ok(found)
 }
 
-/// The same in any order.
+/// Returns what [`found_fields`] returns, in any order.
 fn found_unsorted<'a>(
     alloc: Global,
     _reader: &[Field],
@@ -277,7 +280,7 @@ fn found_unsorted<'a>(
     Ok(found)
 }
 
-/// Adds these, each with that place.
+/// Adds these fields, each with that position.
 fn add_found(
     found: &mut Vec<FoundField>,
     holders: &[Holder],

@@ -10,14 +10,14 @@ use avro_schema::Field;
 use base_text::Text;
 use named_list::NamedList;
 
-/// The field of that name.
+/// Returns the field of that name.
 fn field_named<'a>(fields: &'a NamedList<Field>, name: &Text) -> Option<&'a Field>
     ensures { option_copied result ≡ spec_field_named fields.now name.now }
 {
     fields.get(name)
 }
 
-/// The field that the first of the names with one has.
+/// Returns the field of the first of these names that has one.
 fn first_field<'a>(fields: &'a NamedList<Field>, names: &[Text]) -> Option<&'a Field>
     ensures { option_copied result ≡ slice_get (filter_map (spec_field_named fields.now) names.now) 0 }
 {
@@ -30,8 +30,8 @@ fn first_field<'a>(fields: &'a NamedList<Field>, names: &[Text]) -> Option<&'a F
     None
 }
 
-/// The writer's field that a reader's field is paired with: that of its name, else of its first
-/// alias that has one.
+/// Returns the writer's field that a reader's field is paired with: the one of its name, else of
+/// its first alias that the writer has (Avro 1.11, "Aliases").
 pub fn partner<'a>(writer: &'a NamedList<Field>, field: &Field) -> Option<&'a Field>
     ensures { option_copied result ≡ spec.partner writer.now field.now }
 {
@@ -42,15 +42,15 @@ pub fn partner<'a>(writer: &'a NamedList<Field>, field: &Field) -> Option<&'a Fi
     first_field(writer, field.aliases.as_slice())
 }
 
-/// The field at a place, if there is one.
+/// Returns the field at a position, if there is one.
 pub fn field_at(fields: &[Field], k: usize) -> Option<&Field>
     ensures { option_copied result ≡ slice_get fields.now k }
 {
     fields.get(k)
 }
 
-/// The partner of a reader's field, with a place after which that of the reader's next field may
-/// be looked for. A field of its name is looked for near that place first.
+/// Returns the partner of a reader's field, and a position to try first for the next field. `near`
+/// is such a position; a field of the same name is looked up there before the whole list.
 #[inline(always)]
 pub fn partner_near<'a>(
     writer: &'a NamedList<Field>,
@@ -69,8 +69,8 @@ pub fn partner_near<'a>(
     }
 }
 
-/// The field of that name at `near`, or at the last place before the one that was found there, and
-/// the place after it.
+/// Returns the field of the same name at `near` or two positions before it, and the position after
+/// it. `None` if neither has the name.
 fn nearby<'a>(writer: &'a [Field], field: &Field, near: usize) -> Option<(usize, Option<&'a Field>)>
     requires { HaveDistinctNames writer.now }
     ensures { IfSome result (λ found. option_copied found.1 ≡ spec.partner writer.now field.now) }
@@ -85,7 +85,7 @@ fn nearby<'a>(writer: &'a [Field], field: &Field, near: usize) -> Option<(usize,
     None
 }
 
-/// The field at a place, if it has the field's name.
+/// Returns the field at a position if it has the field's name.
 fn named_at<'a>(writer: &'a [Field], field: &Field, k: usize) -> Option<&'a Field>
     requires { HaveDistinctNames writer.now }
     ensures { IfSome result (λ g. Some g.now ≡ spec.partner writer.now field.now) }
@@ -96,7 +96,7 @@ fn named_at<'a>(writer: &'a [Field], field: &Field, k: usize) -> Option<&'a Fiel
     }
 }
 
-/// The first of the reader's fields that has no field to read and no default.
+/// Returns the first of the reader's fields that has no partner and no default.
 pub fn first_lacking<'a>(reader: &'a [Field], writer: &NamedList<Field>) -> Option<&'a Field>
     ensures { option_copied result ≡ find (spec.lacks_value writer.now) reader.now }
 {
@@ -108,7 +108,7 @@ pub fn first_lacking<'a>(reader: &'a [Field], writer: &NamedList<Field>) -> Opti
     None
 }
 
-/// The field of that number among those of the reader's that are paired.
+/// Returns the reader's field of that number, counting only fields with a partner, from 0.
 pub fn paired_at<'a>(
     reader: &'a [Field],
     writer: &NamedList<Field>,
@@ -128,7 +128,8 @@ pub fn paired_at<'a>(
     None
 }
 
-/// The same, where these of the reader's fields are looked at alone.
+/// Returns the reader's field of that number, counting only fields with a partner. Looks only at
+/// the fields in `found`.
 pub fn paired_among<'a>(
     reader: &'a [Field],
     writer: &[Field],

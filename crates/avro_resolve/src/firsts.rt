@@ -4,25 +4,25 @@ ghost use Rattle.avro_resolve.specs.Seen.{known, with_first};
 
 use std::alloc::{AllocError, Global};
 
-/// For each of the types of one schema, the first of another's that came with it.
+/// For each type of one schema, the first type of the other schema that it was paired with.
 #[derive(Drop)]
 pub struct Firsts {
     pub of: Vec<Option<usize>>,
 }
 
-/// What was known of two types that came together.
+/// What [`Firsts`] knew of two types before they were joined.
 #[derive(Clone, Copy)]
 pub enum Known {
-    /// No type had come with the one.
+    /// The first type had no partner yet.
     New,
-    /// They are the first that came together.
+    /// The first type's first partner is the second.
     Same,
-    /// Another type had come with the one, or it isn't among those that are looked after.
+    /// The first type's first partner is another, or its number is out of range.
     Other,
 }
 
 impl Firsts {
-    /// None of so many types came with another.
+    /// Makes one of `many` types that have no partners. The only error is out of memory.
     pub fn none(alloc: Global, many: usize) -> Result<Firsts, AllocError>
         ensures { IfOk result (λ f. f.of.items ≡ replicate many None) }
     {
@@ -31,14 +31,14 @@ impl Firsts {
         })
     }
 
-    /// The first that came with a type.
+    /// Returns the first partner of a type. The outer `None`: the number is out of range.
     fn first_with(&self, i: usize) -> Option<Option<usize>>
         ensures { result ≡ slice_get self.now.of.items i }
     {
         self.of.get(i).copied()
     }
 
-    /// Types i and j come together.
+    /// Joins types `i` and `j`, and returns what was known before. `j` is kept if it is the first.
     pub fn join(&mut self, i: usize, j: usize) -> Known
         ensures known { result ≡ known (slice_get self.old.of.items i) j }
         ensures firsts { self.new.of.items ≡ with_first (known (slice_get self.old.of.items i) j) i j self.old.of.items }

@@ -17,8 +17,9 @@ use avro_schema::{Field, NodeId, Schema};
 use named_list::NamedList;
 
 impl Trail {
-    /// Whether the hops lead from the roots of a reader's and a writer's schema to a pair that
-    /// clashes in this way. A trail need not be the one that `resolve` shows. Takes no memory.
+    /// Checks whether the hops lead from the roots of a reader's and a writer's schema to a pair
+    /// with this kind of clash. Any such trail passes, not only the one that `resolve` returns.
+    /// Allocates nothing.
     pub fn check(&self, r: &Schema, w: &Schema) -> bool
         ensures trail { IsTrue result ↔ IsTrail r.now.nodes w.now.nodes self.now }
         ensures hops_name_one { HopsNameOne r.now.nodes w.now.nodes }
@@ -40,7 +41,7 @@ impl Trail {
     }
 }
 
-/// The pair that a hop leads to, if it is a hop of this pair.
+/// Returns the pair that a hop leads to. `None` if it isn't a hop of this pair.
 fn follow(r: &Schema, w: &Schema, pair: Pair, hop: &Hop) -> Option<Pair>
     requires reader { pair.reader.index < length r.now.nodes }
     requires writer { pair.writer.index < length w.now.nodes }
@@ -55,14 +56,14 @@ fn follow(r: &Schema, w: &Schema, pair: Pair, hop: &Hop) -> Option<Pair>
     }
 }
 
-/// The one pair that is owed, if this is its hop.
+/// Returns the only obligation, if this is its hop.
 fn only_pair(part: Part, next: Pair, hop: &Hop) -> Option<Pair>
     ensures { result ≡ pair_by (record { hop = hop_into part; pair = next } ∷ []) hop.now }
 {
     if is_into(part, hop) { Some(next) } else { None }
 }
 
-/// Whether a hop leads into this part.
+/// Returns whether a hop leads into this part.
 fn is_into(part: Part, hop: &Hop) -> bool
     ensures { result ≡ same_hop hop.now (hop_into part) }
 {
@@ -73,7 +74,7 @@ fn is_into(part: Part, hop: &Hop) -> bool
     }
 }
 
-/// The pair of the reader's type and the writer's branch that a hop names.
+/// Returns the pair of the reader's type and the writer's branch that a hop names.
 fn writer_branch(i: NodeId, branches: &[NodeId], hop: &Hop) -> Option<Pair>
     ensures { result ≡ pair_by (map (λ b. spec.obligation (hops.Writer b.0) i b.1) (enumerate_from 0 branches.now)) hop.now }
 {
@@ -89,14 +90,15 @@ fn writer_branch(i: NodeId, branches: &[NodeId], hop: &Hop) -> Option<Pair>
     }
 }
 
-/// The branch of that number, if there is one.
+/// Returns the branch of that number, if there is one.
 fn branch_at(branches: &[NodeId], k: usize) -> Option<NodeId>
     ensures { result ≡ slice_get branches.now k }
 {
     branches.get(k).copied()
 }
 
-/// The pair of the field that a hop names and its partner, unless a field lacks a value.
+/// Returns the pair of the field that a hop names and its partner. `None` if any field lacks a
+/// partner and a default.
 fn paired_field(reader: &[Field], writer: &NamedList<Field>, hop: &Hop) -> Option<Pair>
     ensures { result ≡ pair_by (result_unwrap_or (spec.to_fields reader.now writer.now) []) hop.now }
 {
@@ -106,7 +108,7 @@ fn paired_field(reader: &[Field], writer: &NamedList<Field>, hop: &Hop) -> Optio
     field_pair(reader, writer, hop)
 }
 
-/// The pair of the field that a hop names and its partner.
+/// Returns the pair of the field that a hop names and its partner.
 fn field_pair(reader: &[Field], writer: &NamedList<Field>, hop: &Hop) -> Option<Pair>
     ensures { result ≡ pair_by
         (filter_map (λ f. option_map (λ g. spec.obligation (hops.Field f.name) f.node g.node) (pairing.partner writer.now f)) reader.now)
@@ -128,7 +130,7 @@ fn field_pair(reader: &[Field], writer: &NamedList<Field>, hop: &Hop) -> Option<
     None
 }
 
-/// Whether a pair clashes in this way.
+/// Returns whether a pair has this kind of clash.
 fn clashes_so(r: &Schema, w: &Schema, pair: Pair, kind: &ClashKind) -> bool
     requires reader { pair.reader.index < length r.now.nodes }
     requires writer { pair.writer.index < length w.now.nodes }
@@ -141,7 +143,7 @@ fn clashes_so(r: &Schema, w: &Schema, pair: Pair, kind: &ClashKind) -> bool
     }
 }
 
-/// Whether two records whose names match clash in this way.
+/// Returns whether two records whose names match have this kind of clash.
 fn lacks_so(reader: &[Field], writer: &NamedList<Field>, kind: &ClashKind) -> bool
     ensures { IsTrue result ↔ (result_err (spec.to_fields reader.now writer.now) ≡ Some kind.now) }
 {

@@ -6,14 +6,14 @@ ghost use Rattle.avro_resolve.specs.Seen.{in_grid, word_at, same_numbers};
 use std::alloc::{AllocError, Global};
 use std::collections::BTreeMap;
 
-/// Pairs of numbers: for a first number and 64 second ones a word, whose bits say which are there.
+/// A set of pairs of numbers. Each word has the pairs of one first number and 64 second numbers.
 #[derive(Drop)]
 pub struct Grid {
     pub words: BTreeMap<(usize, usize), u64>,
 }
 
 impl Grid {
-    /// No pair.
+    /// Makes an empty set.
     pub fn none(alloc: Global) -> Grid
         ensures { (i j : ℕ) → in_grid result i j ≡ false }
     {
@@ -22,7 +22,7 @@ impl Grid {
         }
     }
 
-    /// Adds a pair, and says whether it is new.
+    /// Adds a pair and returns whether it is new.
     pub fn insert(&mut self, i: usize, j: usize) -> Result<bool, AllocError>
         ensures new { IfOk result (λ b. b ≡ not (in_grid self.old i j)) }
         ensures added { OnOk result ((k l : ℕ) → in_grid self.new k l ≡ (same_numbers i j k l || in_grid self.old k l)) }
@@ -65,7 +65,7 @@ pub fn has_bit(bits: u64, k: usize) -> bool
     bits & (1 << k) != 0
 }
 
-/// The place of the lowest bit that is set.
+/// Returns the position of the lowest bit that is set, from 0. `bits` must not be 0.
 pub fn lowest_bit(bits: u64) -> usize
     requires { bits ≢ 0 }
     ensures within { result < 64 }

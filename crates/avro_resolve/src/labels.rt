@@ -5,7 +5,7 @@ ghost use Rattle.avro_resolve.specs.Labels as spec;
 use avro_schema::{FullName, Node};
 use base_text::Text;
 
-/// What two types have in common whose names are compared: their kind, and of fixed types the size.
+/// The kind of a named type, and the size of a fixed type. Names are compared within one shape.
 #[derive(Clone, Copy, PartialEq, Eq, PartialOrd, Ord, Drop)]
 pub enum Shape {
     Record,
@@ -13,7 +13,8 @@ pub enum Shape {
     Fixed(u32),
 }
 
-/// What a type is found by: the last part of its name, or with a namespace one of its aliases.
+/// A key by which a type is found: the last part of its name, or with a namespace one of its
+/// aliases.
 #[derive(Clone, Copy, PartialEq, Eq, PartialOrd, Ord, Drop)]
 pub struct Label<'a> {
     pub shape: Shape,
@@ -21,7 +22,7 @@ pub struct Label<'a> {
     pub namespace: Option<&'a Text>,
 }
 
-/// The head of a type that has a name.
+/// The shape, name and aliases of a type that has a name.
 #[derive(Clone, Copy, Drop)]
 pub struct Heading<'a> {
     pub shape: Shape,
@@ -29,7 +30,7 @@ pub struct Heading<'a> {
     pub aliases: &'a [FullName],
 }
 
-/// The label of the last part of a name.
+/// Returns the label of the last part of a name.
 pub fn last_label(shape: Shape, name: &FullName) -> Label<'_>
     ensures shape { result.shape ≡ shape }
     ensures name { result.name.now ≡ name.now.name }
@@ -42,7 +43,7 @@ pub fn last_label(shape: Shape, name: &FullName) -> Label<'_>
     }
 }
 
-/// The label of a full name.
+/// Returns the label of a full name.
 pub fn full_label(shape: Shape, name: &FullName) -> Label<'_>
     ensures shape { result.shape ≡ shape }
     ensures name { result.name.now ≡ name.now.name }
@@ -55,7 +56,7 @@ pub fn full_label(shape: Shape, name: &FullName) -> Label<'_>
     }
 }
 
-/// The head of a type, if it has a name.
+/// Returns the heading of a type. `None` if the type has no name.
 pub fn head_of(node: &Node) -> Option<Heading<'_>>
     ensures { option_map spec.read_heading result ≡ spec.heading_of (Some node.now) }
 {

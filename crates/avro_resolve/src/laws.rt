@@ -5,13 +5,13 @@ ghost use Rattle.avro_schema.specs.declared.node.Node.{Node};
 ghost use Rattle.avro_resolve.specs.Trails.{AreCompatibleByObligations};
 ghost use Rattle.avro_resolve.specs.Verdict.{HaveOneVerdict};
 
-/// Two verdicts on the same two lists of nodes are equal.
+/// States that two schemas have at most one verdict.
 pub fn schemas_have_one_verdict()
     ensures { (r w : List Node) → HaveOneVerdict r w }
 {}
 
-/// What holds at a pair of types holds at each pair that it owes: so a value can be followed from
-/// the roots inward.
+/// States that a pair of types is compatible if and only if it doesn't clash and each of its
+/// obligations (the pairs that it needs) is compatible.
 pub fn obligations_are_compatible()
     ensures { (r w : List Node) → AreCompatibleByObligations r w }
 {}

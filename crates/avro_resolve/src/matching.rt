@@ -6,10 +6,12 @@ ghost use Rattle.avro_resolve.specs.Inward.{inner_types, is_union_node};
 use crate::names::{names_match, primitives_match};
 use avro_schema::{Node, NodeId, Schema};
 
-/// Whether the reader's type `i` matches the writer's type `j` (Avro 1.11, "Schema Resolution").
+/// Returns whether the reader's type `i` matches the writer's type `j` (Avro 1.11, "Schema
+/// Resolution").
 ///
-/// Arrays match where their items do, and maps where their values do; what is inside a record or a
-/// union isn't looked at. Each id is below its schema's `node_count`. Takes no memory.
+/// Arrays match if their items do, and maps if their values do. A union matches any type, and the
+/// fields of a record aren't compared. Each id must be below its schema's `node_count`. Allocates
+/// nothing.
 pub fn matches(r: &Schema, i: NodeId, w: &Schema, j: NodeId) -> bool
     requires reader { i.index < length r.now.nodes }
     requires writer { j.index < length w.now.nodes }
@@ -37,7 +39,7 @@ pub fn matches(r: &Schema, i: NodeId, w: &Schema, j: NodeId) -> bool
     }
 }
 
-/// What two arrays or two maps are of.
+/// Returns the item types of two arrays or the value types of two maps, else `None`.
 fn inner_types(reader: &Node, writer: &Node) -> Option<(NodeId, NodeId)>
     ensures { result ≡ inner_types reader.now writer.now }
 {
@@ -54,7 +56,7 @@ fn inner_types(reader: &Node, writer: &Node) -> Option<(NodeId, NodeId)>
     }
 }
 
-/// Whether two types match that aren't both arrays or both maps.
+/// Returns whether two types match that aren't both arrays or both maps.
 fn nodes_match(reader: &Node, writer: &Node) -> bool
     ensures { result ≡ spec.nodes_match (λ k l. false) reader.now writer.now }
 {

@@ -6,14 +6,15 @@ ghost use Rattle.avro_resolve.specs.Match as spec;
 
 use avro_schema::{FullName, Primitive};
 
-/// Whether the last parts are equal, or the writer's full name is one of the reader's aliases.
+/// Returns whether the last parts are equal, or the writer's full name is one of the reader's
+/// aliases (Avro 1.11, "Aliases").
 pub fn names_match(reader: &FullName, aliases: &[FullName], writer: &FullName) -> bool
     ensures { result ≡ spec.names_match reader.now aliases.now writer.now }
 {
     reader.name == writer.name || is_among(writer, aliases)
 }
 
-/// Whether a full name is one of these.
+/// Returns whether a full name is one of these.
 fn is_among(name: &FullName, names: &[FullName]) -> bool
     ensures { result ≡ list_any (same_name name.now) names.now }
 {
@@ -25,14 +26,16 @@ fn is_among(name: &FullName, names: &[FullName]) -> bool
     false
 }
 
-/// Whether two full names are the same. Long namespaces are often equal where the last parts differ.
+/// Returns whether two full names are equal. Compares the last parts first, since namespaces are
+/// often equal.
 fn is_same_name(a: &FullName, b: &FullName) -> bool
     ensures { result ≡ same_name a.now b.now }
 {
     a.name == b.name && a.namespace == b.namespace
 }
 
-/// Whether a writer's primitive is the reader's, or is promoted to it.
+/// Returns whether a writer's primitive is the reader's or is promoted to it (Avro 1.11, "Schema
+/// Resolution").
 pub fn primitives_match(reader: Primitive, writer: Primitive) -> bool
     ensures { result ≡ spec.primitives_match reader writer }
 {

@@ -5,14 +5,14 @@ ghost use Rattle.avro_resolve.specs.Worklist.{has_number};
 use crate::grid::{has_bit, with_bit};
 use std::alloc::{AllocError, Global};
 
-/// Numbers below a bound: for each 64 of them a word, whose bits say which are there.
+/// A set of numbers below a bound, with one word for each 64 numbers.
 #[derive(Drop)]
 pub struct Numbers {
     pub words: Vec<u64>,
 }
 
 impl Numbers {
-    /// None of so many numbers.
+    /// Makes an empty set of numbers up to `many`. The only error is out of memory.
     pub fn none(alloc: Global, many: usize) -> Result<Numbers, AllocError>
         ensures none { IfOk result (λ s. (k : ℕ) → has_number s.words.items k ≡ false) }
         ensures room { IfOk result (λ s. many < 64 * length s.words.items) }
@@ -24,7 +24,7 @@ impl Numbers {
         })
     }
 
-    /// Whether a number is there.
+    /// Returns whether the set has a number.
     pub fn has(&self, k: usize) -> bool
         requires { k < 64 * length self.now.words.items }
         ensures { result ≡ has_number self.now.words.items k }
@@ -32,7 +32,7 @@ impl Numbers {
         has_bit(self.words[k / 64], k % 64)
     }
 
-    /// Whether none of the numbers of a word is there.
+    /// Returns whether the word at `place` is 0.
     pub fn is_empty_at(&self, place: usize) -> bool
         requires { place < length self.now.words.items }
         ensures { result ≡ (get_or self.now.words.items place 0 == 0) }
@@ -52,7 +52,7 @@ impl Numbers {
         self.words[place] = with_bit(word, k % 64);
     }
 
-    /// Takes the numbers of a word away, and gives its bits.
+    /// Removes the numbers of the word at `place` and returns its bits.
     pub fn take_word(&mut self, place: usize) -> u64
         requires { place < length self.old.words.items }
         ensures word { result ≡ get_or self.old.words.items place 0 }

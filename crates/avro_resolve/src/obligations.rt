@@ -1,4 +1,4 @@
-// The pairs of types that have to resolve for another pair to do so, as contracts speak of them.
+// Obligations: the pairs of types that have to resolve for another pair to resolve.
 
 use crate::trail::Hop;
 use avro_schema::NodeId;
@@ -10,7 +10,7 @@ pub struct Pair {
     pub writer: NodeId,
 }
 
-/// A pair that has to resolve for another to do so, and the hop that leads to it.
+/// An obligation of a pair: another pair that has to resolve for it, and the hop that leads there.
 #[derive(Drop)]
 pub struct Obligation {
     pub hop: Hop,

@@ -17,8 +17,8 @@ use avro_schema::{Field, NodeId, Schema};
 use named_list::NamedList;
 use std::alloc::AllocError;
 
-/// Looks up a pair: puts the pairs that it owes into `owed`, in their order, or says why it
-/// clashes.
+/// Looks up a pair: puts its obligations (the pairs that it needs) into `owed`, in their order, or
+/// returns why it clashes. The only error is out of memory.
 #[inline(always)]
 pub fn look_up<'a>(
     r: &'a Schema,
@@ -49,7 +49,7 @@ pub fn look_up<'a>(
     owe(row, owed)
 }
 
-/// Adds what a row owes, or says why it clashes.
+/// Adds the obligations of a row, or returns why it clashes.
 fn owe<'a>(row: Row<'a>, owed: &mut Vec<Pair>) -> Result<Option<Cause<'a>>, AllocError>
     requires distinct { HasDistinct row }
     requires none { owed.old.items ≡ [] }
@@ -71,7 +71,7 @@ fn owe<'a>(row: Row<'a>, owed: &mut Vec<Pair>) -> Result<Option<Cause<'a>>, Allo
     }
 }
 
-/// Adds the reader's type with each branch of the writer's union.
+/// Adds the pairs of the reader's type with each branch of the writer's union.
 fn owe_branches(i: NodeId, branches: &[NodeId], owed: &mut Vec<Pair>) -> Result<(), AllocError>
     requires { owed.old.items ≡ [] }
     ensures { OnOk result (owed.new.items ≡ map (pair_with i) branches.now) }
@@ -86,8 +86,8 @@ fn owe_branches(i: NodeId, branches: &[NodeId], owed: &mut Vec<Pair>) -> Result<
     Ok(())
 }
 
-/// Adds the reader's fields that are paired, each with its partner; where one lacks a value, names
-/// the first such field.
+/// Adds the pair of each field of the reader's with its partner. Returns the first field that has
+/// no partner and no default, if there is one.
 fn owe_fields<'a>(
     reader: &'a [Field],
     writer: &NamedList<Field>,
@@ -115,7 +115,8 @@ fn owe_fields<'a>(
     Ok(None)
 }
 
-/// The same for the reader's record of that id, by its field index.
+/// Adds the pairs of fields like `owe_fields`, for the reader's record of that id, by its field
+/// index.
 fn owe_long<'a>(
     r: &Schema,
     id: NodeId,
@@ -148,7 +149,7 @@ fn owe_long<'a>(
     }
 }
 
-/// The same, where these of the reader's fields are looked at alone.
+/// Adds the pairs of fields, looking only at the reader's fields in `found`.
 fn owe_found<'a>(
     reader: &'a [Field],
     writer: &[Field],

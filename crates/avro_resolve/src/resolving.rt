@@ -14,24 +14,25 @@ use crate::unions::Unions;
 use avro_schema::Schema;
 use std::alloc::{AllocError, Global};
 
-/// After how many pairs it is asked whether any clash can be reached, before the search for the
-/// shortest trail to one goes on.
+/// After this many pairs, the search for a shortest trail stops to ask whether any clash can be
+/// reached.
 const MANY_PAIRS: usize = 65_536;
 
-/// The part of all pairs that has to be reached before: by then the search has taken about as much
-/// memory as the question takes.
+/// The question also waits until one in this many of all pairs is reached: by then the search has
+/// taken about as much memory as the question takes.
 const PART: usize = 256;
 
-/// For how many pairs that one owes there is room at first.
+/// The most obligations of a pair for which room is made at first.
 const SOON_OWED: usize = 64;
 
-/// Whether a reader's schema and a writer's are compatible.
+/// The result of resolving a reader's schema against a writer's.
 #[derive(Debug, Drop)]
 pub enum Verdict {
-    /// No trail leads to a clash.
+    /// The schemas are compatible: no trail leads to a clash.
     Compatible,
-    /// A shortest trail to a clash. Of several it is the first in dictionary order of its pairs'
-    /// numbers: a pair's number is its place among those that the pair before it needs.
+    /// The schemas aren't compatible, shown by a shortest trail to a clash. Of several shortest
+    /// trails it is the first in dictionary order of the obligations' numbers; an obligation's
+    /// number is its position among those of its pair.
     Clash(Trail),
 }
 
@@ -46,8 +47,8 @@ impl Clone for Verdict {
     }
 }
 
-/// A verdict, and how many pairs of types it needed: all that can be reached, or those that are
-/// looked up until the clash is met that is shown.
+/// A verdict, and the number of pairs of types that it needed: all reachable pairs if the schemas
+/// are compatible, else those looked up until the clash was found.
 #[derive(Debug, Drop)]
 pub struct Counted {
     pub verdict: Verdict,
@@ -58,8 +59,8 @@ ghost use Rattle.avro_resolve.specs.Verdict.{IsVerdict, HaveOneVerdict};
 
 /// Resolves a reader's schema `r` against a writer's schema `w` (Avro 1.11, "Schema Resolution").
 ///
-/// Whether a field has a default counts, and not whether the default is valid. The only error is
-/// out of memory.
+/// Only the presence of a field's default counts, not whether it is valid. The only error is out of
+/// memory.
 pub fn resolve(alloc: Global, r: &Schema, w: &Schema) -> Result<Verdict, AllocError>
     ensures verdict { IfOk result (IsVerdict r.now.nodes w.now.nodes) }
     ensures one_verdict { HaveOneVerdict r.now.nodes w.now.nodes }
@@ -67,8 +68,8 @@ pub fn resolve(alloc: Global, r: &Schema, w: &Schema) -> Result<Verdict, AllocEr
     Ok(resolve_counted(alloc, r, w)?.verdict)
 }
 
-/// The same, with the number of pairs of types that it needed: at most `r.node_count()` times
-/// `w.node_count()`.
+/// Resolves two schemas like [`resolve`], and counts the pairs of types that it needed: at most
+/// `r.node_count()` times `w.node_count()`. The only error is out of memory.
 pub fn resolve_counted(alloc: Global, r: &Schema, w: &Schema) -> Result<Counted, AllocError>
     ensures verdict { IfOk result (λ c. IsVerdict r.now.nodes w.now.nodes c.verdict) }
     ensures pairs { IfOk result (λ c. c.pairs ≤ length r.now.nodes * length w.now.nodes) }
@@ -79,7 +80,7 @@ pub fn resolve_counted(alloc: Global, r: &Schema, w: &Schema) -> Result<Counted,
     resolve_by(alloc, r, w, &mut search, &mut unions, &mut field_indexes)
 }
 
-/// Resolves by a search that has reached no pair.
+/// Resolves two schemas, with a search that has reached no pair yet.
 fn resolve_by<'a>(
     alloc: Global,
     r: &'a Schema,
@@ -128,8 +129,8 @@ fn resolve_by<'a>(
     })
 }
 
-/// After how many pairs it is worth while to ask whether any clash can be reached: the search for
-/// the shortest trail takes far more memory for a pair than that question does.
+/// Returns after how many pairs to ask whether any clash can be reached. The search for a shortest
+/// trail takes far more memory per pair than that question.
 fn patience_with(r: &Schema, w: &Schema) -> usize {
     let pairs = r.node_count().saturating_mul(w.node_count());
     MANY_PAIRS.max(pairs / PART)

@@ -21,24 +21,25 @@ use base_text::Listed;
 use named_list::NamedList;
 use std::alloc::{AllocError, Global};
 
-/// For how many pairs there is room at first.
+/// The most pairs for which room is made at first.
 const SOON_REACHED: usize = 64;
 
-/// Where a pair was reached from: the place of an earlier pair, and the number of its obligation.
+/// Where a pair was reached from: the position of an earlier pair in the search, and the number of
+/// its obligation, both from 0.
 #[derive(Clone, Copy)]
 pub struct Origin {
     pub place: usize,
     pub number: usize,
 }
 
-/// A pair that was reached, and from where; the roots from nowhere.
+/// A pair that was reached, and where from. The pair of roots has no origin.
 #[derive(Clone, Copy)]
 pub struct ReachedPair {
     pub pair: Pair,
     pub from: Option<Origin>,
 }
 
-/// The pairs that were reached, in the order in which they were, and the same as a set.
+/// A breadth-first search: the pairs reached so far, in order and as a set.
 #[derive(Drop)]
 pub struct Search {
     pub entries: Vec<ReachedPair>,
@@ -48,7 +49,8 @@ pub struct Search {
 impl Search {
     ghost use Rattle.avro_resolve.specs.Search.{AgreesWith, with_entry, entry_from, expanded, hop_numbered, IsWayBack, LeadsBack};
 
-    /// A search that has reached no pair, of schemas of so many types.
+    /// Makes a search over schemas of so many nodes that has reached no pair. The only error is out
+    /// of memory.
     pub fn none(alloc: Global, readers: usize, writers: usize) -> Result<Search, AllocError>
         ensures none { IfOk result (λ s. s.entries.items ≡ []) }
         ensures agrees { IfOk result (λ s. AgreesWith s.seen []) }
@@ -58,7 +60,7 @@ impl Search {
         Ok(Search { entries, seen })
     }
 
-    /// Reaches the pair of roots, before all others.
+    /// Adds the pair of roots, the first of all.
     pub fn reach_roots(&mut self, r: &Schema, w: &Schema) -> Result<(), AllocError>
         requires none { self.old.entries.items ≡ [] }
         requires agrees { AgreesWith self.old.seen [] }
@@ -72,7 +74,7 @@ impl Search {
         self.reach(ReachedPair { pair, from: None })
     }
 
-    /// Adds an entry, unless its pair was reached before.
+    /// Adds an entry unless its pair was reached before.
     #[inline(always)]
     fn reach(&mut self, entry: ReachedPair) -> Result<(), AllocError>
         requires { AgreesWith self.old.seen self.old.entries.items }
@@ -85,7 +87,7 @@ impl Search {
         Ok(())
     }
 
-    /// Reaches the pairs that the pair at a place owes, in their order.
+    /// Adds the obligations of the pair at `place`, in their order, unless reached before.
     pub fn reach_all(&mut self, place: usize, owed: &[Pair]) -> Result<(), AllocError>
         requires { AgreesWith self.old.seen self.old.entries.items }
         ensures entries { OnOk result (self.new.entries.items ≡ expanded place 0 owed.now self.old.entries.items) }
@@ -97,7 +99,8 @@ impl Search {
         Ok(())
     }
 
-    /// The trail to the pair at a place, which clashes for this cause.
+    /// Makes the trail to the pair at `place`, which clashes for this cause. The only error is out
+    /// of memory.
     pub fn trail_to<'a>(
         &self,
         alloc: Global,
@@ -120,7 +123,7 @@ impl Search {
         Ok(Trail { hops, kind })
     }
 
-    /// The hops from the roots to the pair at a place.
+    /// Returns the hops from the roots to the pair at `place`.
     fn hops_to<'a>(
         &self,
         alloc: Global,
@@ -148,7 +151,7 @@ impl Search {
     }
 }
 
-/// The entry of a pair that the pair at a place owes.
+/// Makes the entry of an obligation of the pair at `place`.
 fn reached(pair: Pair, place: usize, number: usize) -> ReachedPair
     ensures { result ≡ record { pair = pair; from = Some (record { place = place; number = number }) } }
 {
@@ -158,7 +161,7 @@ fn reached(pair: Pair, place: usize, number: usize) -> ReachedPair
     }
 }
 
-/// The hop of a pair's obligation of that number.
+/// Returns the hop of a pair's obligation of that number.
 fn hop_of<'a>(
     r: &'a Schema,
     w: &'a Schema,
@@ -180,7 +183,8 @@ fn hop_of<'a>(
     }
 }
 
-/// The hop into the field of that number, of the reader's record of that id, by its field index.
+/// Returns the hop into the paired field of that number, for the reader's record of that id, by its
+/// field index.
 fn long_hop<'a>(
     r: &Schema,
     id: NodeId,
@@ -210,7 +214,8 @@ fn long_hop<'a>(
     }
 }
 
-/// The same, where these of the reader's fields are looked at alone.
+/// Returns the hop into the paired field of that number, looking only at the reader's fields in
+/// `found`.
 fn found_hop(
     reader: &[Field],
     writer: &[Field],
@@ -228,7 +233,7 @@ fn found_hop(
     }
 }
 
-/// The same of any pair.
+/// Returns the hop of an obligation of any pair, by its row.
 fn short_hop<'a>(
     r: &'a Schema,
     w: &'a Schema,
@@ -250,7 +255,7 @@ fn short_hop<'a>(
     }
 }
 
-/// The hop into the field of that number among those that are paired.
+/// Returns the hop into the field of that number, counting only fields with a partner.
 fn field_hop(reader: &[Field], writer: &NamedList<Field>, number: usize) -> Result<Hop, AllocError>
     requires { number < length (result_unwrap_or (spec.to_fields reader.now writer.now) []) }
     ensures { IfOk result (λ h. option_map (λ o. o.hop) (slice_get (result_unwrap_or (spec.to_fields reader.now writer.now) []) number) ≡ Some h) }

@@ -1,4 +1,4 @@
-// Which pairs were seen.
+// The set of pairs that were seen.
 ghost use Rattle.std.specs.Prelude.{◌≡◌, ℕ, ◌||◌, false, not, IfOk, OnOk};
 ghost use Rattle.avro_resolve.specs.Seen.{is_seen, IsFair, is_further, IsFairFurther, are_further, AreFair, same_pair, same_numbers};
 
@@ -7,8 +7,8 @@ use crate::grid::Grid;
 use crate::obligations::Pair;
 use std::alloc::{AllocError, Global};
 
-/// The pairs that were seen: for each of the reader's types the first of the writer's that came
-/// with it, mostly the only one, and the further pairs.
+/// The set of pairs that were seen. It keeps the first partner of each of the reader's types, which
+/// is usually the only one, and the further pairs apart.
 #[derive(Drop)]
 pub struct SeenPairs {
     pub first: Firsts,
@@ -17,8 +17,8 @@ pub struct SeenPairs {
     writers: usize,
 }
 
-/// The pairs whose reader's type came before: for each of the writer's types the first of the
-/// reader's that came with it here, and the other pairs.
+/// The pairs whose reader's type already had another partner. It keeps the first partner of each of
+/// the writer's types, and the other pairs apart.
 #[derive(Drop)]
 pub struct Further {
     pub first: Firsts,
@@ -26,7 +26,7 @@ pub struct Further {
 }
 
 impl SeenPairs {
-    /// No pair of schemas of so many types.
+    /// Makes an empty set for schemas of so many nodes. The only error is out of memory.
     pub fn none(alloc: Global, readers: usize, writers: usize) -> Result<SeenPairs, AllocError>
         ensures none { IfOk result (λ s. (p : _) → is_seen s p ≡ false) }
         ensures fair { IfOk result IsFair }
@@ -56,7 +56,7 @@ impl SeenPairs {
     }
 }
 
-/// Adds a further pair, perhaps the first, and says whether it is new.
+/// Adds a further pair, perhaps the first, and returns whether it is new.
 fn insert_further(
     further: &mut Option<Further>,
     alloc: Global,
@@ -81,7 +81,7 @@ fn insert_further(
 }
 
 impl Further {
-    /// No pair with so many types of the writer's.
+    /// Makes an empty set for a writer's schema of so many nodes.
     fn none(alloc: Global, writers: usize) -> Result<Further, AllocError>
         ensures none { IfOk result (λ f. (i j : ℕ) → is_further f i j ≡ false) }
         ensures fair { IfOk result IsFairFurther }

@@ -1,4 +1,4 @@
-// The table: the row that a pair of types falls under, with what it takes from the schemas.
+// The table of resolution: for a pair of types, the row that applies to it.
 ghost use Rattle.std.specs.Prelude.{◌≡◌, ◌≢◌, ◌<◌, ℕ, List, [], ◌∷◌, Option, IsTrue, true, is_some, All, length, map, not, find, slice_get, bytes_eq, option_copied, Some, Ok, IfOk, IfSome};
 ghost use Rattle.std.specs.List.{enumerate_from};
 ghost use Rattle.avro_schema.specs.declared.node.Node.TheVariants as kind;
@@ -22,7 +22,7 @@ use base_text::Text;
 use named_list::NamedList;
 use std::alloc::AllocError;
 
-/// Why a pair clashes, with the name that it is about.
+/// Why a pair clashes, with the name of the field or symbol borrowed from the schema.
 #[derive(Clone, Copy)]
 pub enum Cause<'a> {
     MissingUnionBranch,
@@ -34,7 +34,8 @@ pub enum Cause<'a> {
 }
 
 impl Cause<'_> {
-    /// What a clash is reported as.
+    /// Returns the kind that a clash is reported as, with its own copy of the name. The only error
+    /// is out of memory.
     pub fn kind(self) -> Result<ClashKind, AllocError>
         ensures { IfOk result (λ kind. kind ≡ clash_of_cause self.entry) }
     {
@@ -51,17 +52,17 @@ impl Cause<'_> {
     }
 }
 
-/// What of a pair has to resolve alone.
+/// The part of a pair that is its only obligation.
 #[derive(Clone, Copy)]
 pub enum Part {
     Items,
     Values,
-    /// The branch of the reader's union of that number.
+    /// The branch of the reader's union, counted from 0.
     Branch(usize),
 }
 
 impl Part {
-    /// The hop into it.
+    /// Returns the hop into the part.
     pub fn hop(self) -> Hop
         ensures { result ≡ hop_into self }
     {
@@ -73,20 +74,21 @@ impl Part {
     }
 }
 
-/// What a pair comes to, by what it takes from the schemas.
+/// The outcome of a pair: a clash, or its obligations (the pairs that have to resolve for it),
+/// described by the parts of the schemas that they come from.
 #[derive(Clone, Copy)]
 pub enum Row<'a> {
     Clash(Cause<'a>),
-    /// The reader's type with each branch of the writer's union.
+    /// The reader's type has to resolve with each branch of the writer's union.
     WriterBranches(NodeId, &'a [NodeId]),
-    /// One obligation.
+    /// The pair has one obligation.
     One(Part, Pair),
-    /// The reader's fields and the writer's, of two records whose names match.
+    /// The names of two records match: the reader's fields and the writer's, still to be paired.
     Fields(&'a [Field], &'a NamedList<Field>),
     Nothing,
 }
 
-/// Whether a pair is of two primitives that match. Most pairs are, and owe nothing.
+/// Returns whether a pair is of two primitives that match. Most pairs are, and have no obligations.
 #[inline(always)]
 pub fn are_matching_primitives(r: &Schema, w: &Schema, pair: Pair) -> bool
     requires reader { pair.reader.index < length r.now.nodes }
@@ -102,7 +104,8 @@ pub fn are_matching_primitives(r: &Schema, w: &Schema, pair: Pair) -> bool
     }
 }
 
-/// The fields of a pair of records whose names match, where the reader's are many and the writer's few.
+/// Returns the fields of two records whose names match, if the reader has many fields and the
+/// writer few, or a field has many aliases. Else `None`.
 pub fn long_records<'a>(
     r: &'a Schema,
     w: &'a Schema,
@@ -140,7 +143,8 @@ pub fn long_records<'a>(
     }
 }
 
-/// The row of a pair.
+/// Returns the row of a pair (Avro 1.11, "Schema Resolution"). Each id must be below its schema's
+/// `node_count`.
 pub fn row_at<'a>(r: &'a Schema, w: &'a Schema, pair: Pair) -> Row<'a>
     requires reader { pair.reader.index < length r.now.nodes }
     requires writer { pair.writer.index < length w.now.nodes }
@@ -150,7 +154,7 @@ pub fn row_at<'a>(r: &'a Schema, w: &'a Schema, pair: Pair) -> Row<'a>
     row_by_index(r, w, pair, None)
 }
 
-/// The row of a pair, by an index of the branches of the reader's union, if it is one that has one.
+/// Returns the row of a pair. `index` is the index of the reader's union, if it has one.
 pub fn row_by_index<'a>(
     r: &'a Schema,
     w: &'a Schema,
@@ -180,7 +184,7 @@ pub fn row_by_index<'a>(
     }
 }
 
-/// The row of two types that are no unions.
+/// Returns the row of two types that aren't unions.
 fn plain_row<'a>(reader: &'a Node, writer: &'a Node) -> Row<'a>
     requires { HaveDistinctNames (fields_of_node writer.now) }
     ensures row { outcome_of result ≡ spec.plain_row reader.now writer.now }
@@ -222,7 +226,7 @@ fn plain_row<'a>(reader: &'a Node, writer: &'a Node) -> Row<'a>
     }
 }
 
-/// One obligation.
+/// Returns the row with one obligation.
 fn one_row<'a>(part: Part, reader: NodeId, writer: NodeId) -> Row<'a>
     ensures row { outcome_of result ≡ Ok (spec.obligation (hop_into part) reader writer ∷ []) }
     ensures distinct { HasDistinct result }
@@ -316,7 +320,8 @@ fn primitive_row<'a>(reader: Primitive, writer: Primitive) -> Row<'a>
     }
 }
 
-/// The row of a reader's union and a writer's type that isn't one: its first branch that matches.
+/// Returns the row of a reader's union and a writer's type that isn't one: the first branch that
+/// matches.
 fn branch_row<'a>(
     r: &'a Schema,
     i: NodeId,
@@ -368,7 +373,7 @@ fn first_matching_branch(
     None
 }
 
-/// The row of two enums whose names match, where the reader's has a default or none.
+/// Returns the row of two enums whose names match. `has_default` is about the reader's.
 fn symbol_row<'a>(reader: &NamedList<Text>, has_default: bool, writer: &'a [Text]) -> Row<'a>
     ensures row { outcome_of result ≡ spec.with_symbols reader.now has_default writer.now }
     ensures distinct { HasDistinct result }
@@ -382,7 +387,7 @@ fn symbol_row<'a>(reader: &NamedList<Text>, has_default: bool, writer: &'a [Text
     }
 }
 
-/// The first of the writer's symbols that isn't among the reader's.
+/// Returns the first of the writer's symbols that isn't among the reader's.
 fn first_unknown<'a>(reader: &NamedList<Text>, writer: &'a [Text]) -> Option<&'a Text>
     ensures { option_copied result ≡ find (λ s. not (has_text reader.now s)) writer.now }
 {
@@ -396,7 +401,7 @@ fn first_unknown<'a>(reader: &NamedList<Text>, writer: &'a [Text]) -> Option<&'a
     None
 }
 
-/// A place of the symbol among these, if it is there. It is looked for at `near` first.
+/// Returns the position of a symbol, if it is in the list. Looks at `near` first.
 fn symbol_near(symbol: &Text, symbols: &NamedList<Text>, near: usize) -> Option<usize>
     ensures { is_some result ≡ has_text symbols.now symbol.now }
 {
@@ -406,7 +411,7 @@ fn symbol_near(symbol: &Text, symbols: &NamedList<Text>, near: usize) -> Option<
     symbols.place(symbol)
 }
 
-/// Whether the symbol stands at a place.
+/// Returns whether the symbol is at a position.
 fn is_at(symbol: &Text, symbols: &[Text], k: usize) -> bool
     ensures { IsTrue result → true ≡ has_text symbols.now symbol.now }
 {
@@ -416,7 +421,7 @@ fn is_at(symbol: &Text, symbols: &[Text], k: usize) -> bool
     }
 }
 
-/// The symbol at a place, if there is one.
+/// Returns the symbol at a position, if there is one.
 fn symbol_at(symbols: &[Text], k: usize) -> Option<&Text>
     ensures { option_copied result ≡ slice_get symbols.now k }
 {

@@ -8,7 +8,7 @@ use std::fmt;
 /// A step from a pair of types to another pair that has to resolve for it.
 #[derive(Debug, Drop, PartialEq, Eq)]
 pub enum Hop {
-    /// Into the reader's field of that name, and the writer's field that it is paired with.
+    /// Into the reader's field of that name and the writer's field that it is paired with.
     Field(Text),
     /// Into the items of two arrays.
     Items,
@@ -20,25 +20,25 @@ pub enum Hop {
     Reader(usize),
 }
 
-/// Why a reader's type can't read a writer's.
+/// The kind of a clash: why a reader's type can't read a writer's.
 #[derive(Debug, Drop, PartialEq, Eq)]
 pub enum ClashKind {
     /// No branch of the reader's union matches.
     MissingUnionBranch,
     /// The names of two named types don't match.
     NameMismatch,
-    /// The reader's field of that name has no field to read and no default.
+    /// The reader's field of that name has no partner among the writer's fields and no default.
     ReaderFieldMissingDefaultValue(Text),
     /// The reader's enum lacks that symbol and has no default.
     MissingEnumSymbols(Text),
     /// Two fixed types differ in size.
     FixedSizeMismatch,
-    /// The types are of different kinds, or two primitives of which the writer's isn't promoted to
-    /// the reader's.
+    /// The types are of different kinds, or primitives of which the writer's isn't promoted to the
+    /// reader's.
     TypeMismatch,
 }
 
-/// The hops from the pair of roots to a pair that clashes, and why it does.
+/// A trail: the hops from the pair of roots to a pair that clashes, and the kind of the clash.
 #[derive(Debug, Drop)]
 pub struct Trail {
     pub hops: Listed<Hop>,
@@ -127,7 +127,7 @@ impl fmt::Display for ClashKind {
     }
 }
 
-/// The hops alone: `/` and the hop for each hop, and `/` where there is none.
+/// Writes the hops, each after a `/`; without hops, a `/`. The kind isn't written.
 impl fmt::Display for Trail {
     ghost use Rattle.std.specs.Prelude.{Some};
     ghost use Rattle.avro_resolve.specs.Texts.{trail_text};

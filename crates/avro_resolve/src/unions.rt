@@ -1,5 +1,4 @@
-// Indexes of the reader's unions: the first branch that matches is found by them, without a look at the
-// others.
+// Indexes of the reader's unions, which find the first branch that matches without a linear search.
 ghost use Rattle.std.specs.Prelude.{◌≡◌, ◌≢◌, ◌<◌, ◌++◌, [], ◌∷◌, List, None, Some, All, cond, length, find, slice_get, IfOk, IfSome, OnOk};
 ghost use Rattle.std.specs.BTreeMap.{get, is_at};
 ghost use Rattle.std.specs.List.{enumerate_from};
@@ -18,24 +17,24 @@ use avro_schema::{Node, NodeId, Schema};
 use std::alloc::{AllocError, Global};
 use std::collections::BTreeMap;
 
-/// Up to how many branches, and aliases of each, a union has no index.
+/// The most branches, and aliases of each, of a union without an index.
 const FEW: usize = 16;
 
-/// How many entries all indexes may have. One type of many aliases can be a branch of many unions, each
-/// of whose indexes would have them all: past this bound a union is searched branch by branch.
+/// The most entries of all indexes together. A type of many aliases can be a branch of many unions,
+/// and each index would have them all. Beyond this bound a union is searched branch by branch.
 const MANY: usize = 1_048_576;
 
-/// Indexes of unions of the reader's, by the unions' numbers.
+/// The indexes of the reader's unions, by the numbers of their nodes.
 #[derive(Drop)]
 pub struct Unions<'a> {
     memory: Global,
-    /// How many entries may still be made.
+    /// The number of entries that may still be made.
     left: usize,
     pub of: BTreeMap<usize, Branches<'a>>,
 }
 
-/// The branches of a union, each with its number: at each label the first that has it, and those
-/// without a name.
+/// The index of a union: for each label the first branch that has it, and the branches without a
+/// name. Each branch has its number, from 0.
 #[derive(Drop)]
 pub struct Branches<'a> {
     pub labelled: BTreeMap<Label<'a>, (usize, NodeId)>,
@@ -43,7 +42,7 @@ pub struct Branches<'a> {
 }
 
 impl<'a> Unions<'a> {
-    /// None so far.
+    /// Makes an empty set of indexes.
     pub fn none(memory: Global) -> Unions<'a>
         ensures { (r : List SpecNode) → spec.AreIndexes r result.of }
     {
@@ -54,7 +53,7 @@ impl<'a> Unions<'a> {
         }
     }
 
-    /// The index of the reader's type of that id, if one was made.
+    /// Returns the index of the reader's type of that id, if one was made.
     pub fn of_union(&self, _r: &Schema, id: NodeId) -> Option<&Branches<'a>>
         requires { spec.AreIndexes _r.now.nodes self.now.of }
         ensures { IfSome result (λ index. spec.IsIndex _r.now.nodes (spec.branches_in (slice_get _r.now.nodes id.index)) index.now) }
@@ -62,8 +61,8 @@ impl<'a> Unions<'a> {
         self.of.get(&id.index)
     }
 
-    /// Makes an index of the reader's type of that id, if it is a long union that has none, and not
-    /// too long for what is left.
+    /// Makes the index of the reader's type of that id, if it is a long union without one and
+    /// enough entries are left. The only error is out of memory.
     #[inline(always)]
     pub fn look_at(&mut self, r: &'a Schema, id: NodeId) -> Result<(), AllocError>
         requires within { id.index < length r.now.nodes }
@@ -85,7 +84,7 @@ impl<'a> Unions<'a> {
     }
 }
 
-/// Whether branches are many, or one of them has many aliases.
+/// Returns whether there are many branches, or one of them has many aliases.
 fn is_long(r: &Schema, branches: &[NodeId]) -> bool
     requires { All (λ b. b.index < length r.now.nodes) branches.now }
 {
@@ -107,7 +106,7 @@ fn has_many_aliases(node: &Node) -> bool {
     }
 }
 
-/// How many entries the index of these branches has, at most.
+/// Returns the most entries that the index of these branches can have.
 fn entries_of(r: &Schema, branches: &[NodeId]) -> usize
     requires { All (λ b. b.index < length r.now.nodes) branches.now }
 {
@@ -120,7 +119,7 @@ fn entries_of(r: &Schema, branches: &[NodeId]) -> usize
     many
 }
 
-/// The index of these branches.
+/// Makes the index of these branches.
 fn index_of<'a>(
     alloc: Global,
     r: &'a Schema,
@@ -140,7 +139,7 @@ fn index_of<'a>(
 }
 
 impl<'a> Branches<'a> {
-    /// Adds a branch behind the others.
+    /// Adds a branch after the others.
     fn add(&mut self, node: &'a Node, branch: (usize, NodeId)) -> Result<(), AllocError>
         ensures labelled { OnOk result ((l : SpecLabel) → get label_cmp self.new.labelled l ≡ option_or (get label_cmp self.old.labelled l) (cond (has_label (Some node.now) l) (Some branch) None)) }
         ensures unnamed { OnOk result (self.new.unnamed.items ≡ cond (is_unnamed (Some node.now)) (self.old.unnamed.items ++ branch ∷ []) self.old.unnamed.items) }
@@ -151,7 +150,7 @@ impl<'a> Branches<'a> {
         }
     }
 
-    /// The first branch that has a label.
+    /// Returns the first branch that has a label.
     fn with_label(&self, label: Label<'a>) -> Option<(usize, NodeId)>
         ensures { result ≡ get label_cmp self.now.labelled label.entry }
     {
@@ -159,7 +158,7 @@ impl<'a> Branches<'a> {
     }
 }
 
-/// Adds the labels of a type, a branch behind the others.
+/// Adds the labels of a branch, after those of the others.
 fn add_labels<'a>(
     labelled: &mut BTreeMap<Label<'a>, (usize, NodeId)>,
     head: Heading<'a>,
@@ -172,7 +171,7 @@ fn add_labels<'a>(
     Ok(())
 }
 
-/// Adds the labels of a type's aliases.
+/// Adds the labels of the aliases of a branch.
 fn add_aliases<'a>(
     labelled: &mut BTreeMap<Label<'a>, (usize, NodeId)>,
     head: Heading<'a>,
@@ -186,7 +185,7 @@ fn add_aliases<'a>(
     Ok(())
 }
 
-/// Adds a label, unless a branch before has it.
+/// Adds a label, unless an earlier branch has it.
 fn add_label<'a>(
     labelled: &mut BTreeMap<Label<'a>, (usize, NodeId)>,
     label: Label<'a>,
@@ -200,8 +199,8 @@ fn add_label<'a>(
     Ok(())
 }
 
-/// The first branch that matches the writer's type `j`, no union, by an index of the branches of the
-/// reader's union `i`.
+/// Returns the first branch of the reader's union `i` that matches the writer's type `j`, by the
+/// union's index. `j` must not be a union.
 pub fn first_by_index<'a>(
     r: &'a Schema,
     i: NodeId,
@@ -226,7 +225,7 @@ pub fn first_by_index<'a>(
     }
 }
 
-/// The first of these branches that matches.
+/// Returns the first of these branches that matches.
 fn first_among(
     r: &Schema,
     branches: &[(usize, NodeId)],
@@ -245,7 +244,7 @@ fn first_among(
     None
 }
 
-/// Of two branches the one with the lesser number.
+/// Returns the branch with the lower number.
 fn earlier(one: Option<(usize, NodeId)>, other: Option<(usize, NodeId)>) -> Option<(usize, NodeId)>
     ensures { result ≡ spec.earlier one other }
 {

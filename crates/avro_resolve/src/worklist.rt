@@ -1,4 +1,4 @@
-// Numbers that are to be looked at, each of them once.
+// A worklist: numbers to look at, each once.
 ghost use Rattle.std.specs.Prelude.{◌≡◌, ◌≢◌, ◌<◌, ◌*◌, ℕ, ◌&&◌, ◌||◌, ◌==◌, ◌++◌, [], ◌∷◌, true, false, not, cond, None, length, IfOk, IfSome, OnOk};
 ghost use Rattle.avro_resolve.specs.Worklist.{has_number, is_of_word, is_met, waits, IsOrderly};
 
@@ -6,22 +6,22 @@ use crate::grid::{lowest_bit, without_bit};
 use crate::numbers::Numbers;
 use std::alloc::{AllocError, Global};
 
-/// Which numbers were met, and which of them wait to be looked at: two bits for each number, and at
-/// most a place for each 64 of them.
+/// A worklist: the numbers met so far, and those of them that still wait to be looked at. It takes
+/// two bits for each number, and at most one position for each 64 of them.
 #[derive(Drop)]
 pub struct Worklist {
     pub met: Numbers,
-    /// What waits, but for what is in hand.
+    /// The numbers that wait, except those of the current word.
     pub waiting: Numbers,
-    /// The places of the words of `waiting` that aren't 0.
+    /// The positions of the words of `waiting` that aren't 0.
     pub places: Vec<usize>,
-    /// What of the word in hand waits, and the place of that word.
+    /// The bits of the current word that still wait. `place` is that word's position.
     pub bits: u64,
     pub place: usize,
 }
 
 impl Worklist {
-    /// None of so many numbers was met.
+    /// Makes an empty worklist of numbers up to `many`. The only error is out of memory.
     pub fn none(alloc: Global, many: usize) -> Result<Worklist, AllocError>
         ensures met { IfOk result (λ a. (k : ℕ) → is_met a k ≡ false) }
         ensures waits { IfOk result (λ a. (k : ℕ) → waits a k ≡ false) }
@@ -39,7 +39,7 @@ impl Worklist {
         })
     }
 
-    /// Meets a number. If it is met for the first time, it waits from now on.
+    /// Adds a number, unless it was met before. The only error is out of memory.
     pub fn meet(&mut self, k: usize) -> Result<(), AllocError>
         requires room { k < 64 * length self.old.met.words.items }
         requires orderly { IsOrderly self.old }
@@ -59,7 +59,7 @@ impl Worklist {
         Ok(())
     }
 
-    /// Takes a number that waits.
+    /// Takes a waiting number. `None` if none waits.
     pub fn next(&mut self) -> Option<usize>
         requires { IsOrderly self.old }
         ensures waits { IfSome result (λ k. waits self.old k ≡ true) }
@@ -77,7 +77,7 @@ impl Worklist {
         Some(self.place * 64 + bit)
     }
 
-    /// Takes up a further word if nothing of the one in hand waits.
+    /// Moves to another word if nothing of the current one waits.
     fn take_up(&mut self)
         requires { IsOrderly self.old }
         ensures waits { (l : ℕ) → waits self.new l ≡ waits self.old l }
@@ -95,7 +95,7 @@ impl Worklist {
     }
 }
 
-/// Adds a place, if it is new.
+/// Adds a position if it is new.
 fn add_place(places: &mut Vec<usize>, place: usize, is_new: bool) -> Result<(), AllocError>
     ensures { OnOk result (places.new.items ≡ cond is_new (places.old.items ++ place ∷ []) places.old.items) }
 {

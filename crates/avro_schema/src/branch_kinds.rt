@@ -9,8 +9,8 @@ impl Builder {
     ghost use Rattle.avro_schema.specs.Building.{nodes_of};
     ghost use Rattle.avro_schema.specs.Branches.{branch_kind};
 
-    /// The kind of a branch that was read when `before` nodes were open. One of those is a type
-    /// that the branch names, which may still be open.
+    /// Returns the kind of a branch that was read after `before` nodes were opened. An id below
+    /// `before` is a use of a named type, which may still be open.
     pub(crate) fn branch_kind(&self, branch: NodeId, before: usize) -> BranchKind
         ensures { result ≡ branch_kind before (nodes_of self.now) branch }
     {

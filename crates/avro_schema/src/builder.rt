@@ -8,7 +8,7 @@ use base_text::Text;
 use std::alloc::{AllocError, Global};
 use std::mem;
 
-/// The types that were read so far, and the nodes of those that have a name.
+/// The nodes read so far, and the names defined so far.
 #[derive(Drop)]
 pub(crate) struct Builder {
     pub(crate) nodes: Vec<Node>,
@@ -36,7 +36,7 @@ impl Builder {
         }
     }
 
-    /// Opens the next node.
+    /// Adds a node and returns its index. Errors: too many nodes, or out of memory.
     pub(crate) fn open(&mut self, node: Node) -> Result<usize, SchemaError>
         ensures ok { IfOk result (λ i. (i ≡ opened self.old) × (nodes_of self.new ≡ nodes_of self.old ++ node ∷ [])) }
         ensures met { IfOk result (λ _. (ds : List Definition) → HasMet self.old ds → HasMet self.new ds) }
@@ -52,7 +52,7 @@ impl Builder {
         Ok(index)
     }
 
-    /// Opens the next node, which is written when its parts are read.
+    /// Adds a placeholder, which `close` replaces once the node's parts are read.
     pub(crate) fn reserve(&mut self) -> Result<usize, SchemaError>
         ensures ok { IfOk result (λ i. (i ≡ opened self.old) × (nodes_of self.new ≡ nodes_of self.old ++ kind.Primitive simple.Null ∷ [])) }
         ensures met { IfOk result (λ _. (ds : List Definition) → HasMet self.old ds → HasMet self.new ds) }
@@ -62,7 +62,7 @@ impl Builder {
         self.open(Node::Primitive(Primitive::Null))
     }
 
-    /// Writes the node at a place that is open.
+    /// Replaces the placeholder at `index` with its node.
     pub(crate) fn close(&mut self, index: usize, node: Node)
         requires { index < opened self.old }
         ensures nodes { nodes_of self.new ≡ set (nodes_of self.old) index node }
@@ -72,7 +72,8 @@ impl Builder {
         drop(open);
     }
 
-    /// The namespace of that text, whose number is known where it is the enclosing one.
+    /// Returns the namespace of that text, with its number. `known` is the number if the caller has
+    /// it.
     pub(crate) fn numbered(
         &mut self,
         alloc: Global,
@@ -95,7 +96,7 @@ impl Builder {
         })
     }
 
-    /// Opens the next node, and defines a name without a dot as it.
+    /// Adds a placeholder and defines `last`, a name without a dot, in the namespace as its name.
     pub(crate) fn open_named(
         &mut self,
         alloc: Global,
@@ -120,8 +121,8 @@ impl Builder {
         Ok(index)
     }
 
-    /// The node of the type that a use names: a name with a dot as it is written, another in the
-    /// namespace that applies, else in the null namespace.
+    /// Returns the node that a name refers to. A name with a dot is looked up as written; another
+    /// in the enclosing namespace, then in the null namespace.
     pub(crate) fn find(&self, name: &str, namespace: &Namespace) -> Option<usize>
         requires { IsNumbered self.now.names namespace.now }
         ensures { (ds : List Definition) → HasMet self.now ds
@@ -136,7 +137,8 @@ impl Builder {
         }
     }
 
-    /// The node of the type whose full name has these parts. No name begins with its only dot.
+    /// Returns the node of the full name `before.last`. `None` if `before` is empty, since no full
+    /// name starts with a dot.
     fn find_in(&self, before: &str, last: &str) -> Option<usize>
         requires { has_dot last.now ≡ false }
         ensures { (ds : List Definition) → HasMet self.now ds → result ≡ node_named ds (before.now ++ 46 ∷ last.now) }

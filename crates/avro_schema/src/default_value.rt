@@ -9,7 +9,7 @@ use serde_json::Value;
 use std::alloc::{AllocError, Global};
 use std::marker::Model;
 
-/// A field's default as it is written, which contracts see as JSON data.
+/// A field's default as written, unchecked. Contracts see it as JSON data.
 #[derive(Drop)]
 pub struct DefaultValue {
     json: Value,
@@ -28,7 +28,7 @@ impl Model for DefaultValue {
 }
 
 impl DefaultValue {
-    /// A copy of a JSON value. The only error is out of memory.
+    /// Copies a JSON value. The only error is out of memory.
     pub(crate) fn copy_of(alloc: Global, json: &Json<'_>) -> Result<DefaultValue, AllocError>
         requires { IsPlain (tree_view json.now) }
         ensures { IfOk result (λ default. default ≡ tree_view json.now) }
@@ -38,7 +38,7 @@ impl DefaultValue {
         })
     }
 
-    /// The default as JSON.
+    /// Returns the default as JSON.
     pub fn json(&self) -> &Value
         ensures { view result.now ≡ self.now }
     {

@@ -12,16 +12,16 @@ use named_list::NamedList;
 use serde_json::{Map, Number, Value};
 
 impl Schema {
-    /// Tests the default of each field that has one (Avro 1.11, "Records").
+    /// Checks that each field's default is a value of the field's type (Avro 1.11, "Records").
+    /// Returns the name of a field whose default isn't; if there are several, any one of them.
+    /// Allocates nothing.
     ///
-    /// A default is a JSON value of its field's type: `null` of null, a truth value of boolean, a
-    /// whole number of 32 signed bits of int and of 64 of long, any whole number of float and
-    /// double, a string of string, bytes, a fixed type and an enum, an array of valid items, an
-    /// object of a map's valid values, a value of a union's first branch, and of a record an
-    /// object whose members of fields' names are valid, where each field that it leaves out has a
-    /// default of its own.
-    ///
-    /// Where several defaults are invalid, any one of their fields is named. Takes no memory.
+    /// The JSON values of a type are: `null` for null, a boolean for boolean, an integer of 32
+    /// signed bits for int and of 64 for long, any integer for float and double, and a string for
+    /// string, bytes, a fixed type and an enum. For an array, an array of values of its items; for
+    /// a map, an object of its values; for a union, a value of its first branch. For a record, an
+    /// object whose members named like fields are values of those fields; each field that it leaves
+    /// out needs a default.
     pub fn check_defaults(&self) -> Result<(), BadDefault<'_>>
         ensures ok { OnOk result (spec.bad_defaults self.now.nodes ≡ []) }
         ensures bad { IfErr result (λ bad. Contains (spec.bad_defaults self.now.nodes) bad.field.now) }
@@ -36,7 +36,7 @@ impl Schema {
     }
 }
 
-/// Tests the defaults of a record's fields.
+/// Checks the defaults of a record's fields.
 fn check_fields<'s>(schema: &Schema, fields: &'s [Field]) -> Result<(), BadDefault<'s>>
     ensures ok { OnOk result (map (λ f. f.name) (filter (λ f. not (spec.has_good_default schema.now.nodes f)) fields.now) ≡ []) }
     ensures bad { IfErr result (λ bad. Contains (map (λ f. f.name) (filter (λ f. not (spec.has_good_default schema.now.nodes f)) fields.now)) bad.field.now) }
@@ -49,7 +49,7 @@ fn check_fields<'s>(schema: &Schema, fields: &'s [Field]) -> Result<(), BadDefau
     Ok(())
 }
 
-/// Whether a field's default is a value of its type, or it has none.
+/// Returns whether a field has no default, or one that is a value of its type.
 fn has_good_default(schema: &Schema, field: &Field) -> bool
     ensures { result ≡ spec.has_good_default schema.now.nodes field.now }
 {
@@ -59,8 +59,8 @@ fn has_good_default(schema: &Schema, field: &Field) -> bool
     }
 }
 
-/// The type that a default of a type is a value of: a union's first branch. The empty union has
-/// none.
+/// Returns the type that a default must be a value of: the type itself, or a union's first branch.
+/// `None` for an empty union.
 fn default_type(schema: &Schema, id: NodeId) -> Option<&Node>
     ensures { option_copied result ≡ spec.default_type schema.now.nodes id }
 {
@@ -73,7 +73,7 @@ fn default_type(schema: &Schema, id: NodeId) -> Option<&Node>
     }
 }
 
-/// The names of the fields that an object which is a default of a type has to have.
+/// Returns the names of the fields that a default of this type must have: those without a default.
 fn required_names(schema: &Schema, id: NodeId) -> Option<&Listed<Text>>
     ensures { option_copied result ≡ option_map required_of (spec.default_type schema.now.nodes id) }
 {
@@ -86,7 +86,7 @@ fn required_names(schema: &Schema, id: NodeId) -> Option<&Listed<Text>>
     }
 }
 
-/// Whether a JSON value is a default of a type.
+/// Returns whether a JSON value is a valid default of a type.
 #[cycle(default_fits)]
 fn default_fits(schema: &Schema, id: NodeId, value: &Value) -> bool
     ensures { result ≡ spec.default_fits schema.now.nodes id (view value.now) }
@@ -136,7 +136,7 @@ fn values_fit(schema: &Schema, id: NodeId, members: &Map<String, Value>) -> bool
     true
 }
 
-/// Whether the members of fields' names are values of the fields.
+/// Returns whether the members named like fields are values of those fields.
 #[cycle(default_fits)]
 fn fields_fit(schema: &Schema, fields: &NamedList<Field>, members: &Map<String, Value>) -> bool
     ensures { result ≡ spec.fields_fit schema.now.nodes fields.now (members_view members.now.entries) }
@@ -157,7 +157,8 @@ fn field_named<'f>(fields: &'f NamedList<Field>, name: &str) -> Option<&'f Field
     fields.find(name)
 }
 
-/// Whether each of the names is a member's. Takes no more steps than there are members, and one.
+/// Returns whether each of the names is a member's. Stops at the first that isn't, so it looks up
+/// at most one name more than there are members.
 fn have_required(members: &Map<String, Value>, required: Option<&Listed<Text>>) -> bool
     ensures { result ≡ option_map_or (have_all (members_view members.now.entries)) (option_copied required.entry) true }
 {
@@ -218,7 +219,7 @@ fn takes_string(node: Option<&Node>) -> bool
     }
 }
 
-/// Whether a number is a default of a primitive type.
+/// Returns whether a number is a valid default of a primitive type.
 fn is_number_of(number: &Number, primitive: Primitive) -> bool
     ensures { result ≡ spec.primitive_takes (spec.a_number (number_view number.now)) primitive }
 {

@@ -7,22 +7,22 @@ use base_text::Text;
 use std::alloc::{AllocError, Global};
 use std::collections::BTreeMap;
 
-/// A namespace, and the number that stands for it: equal namespaces have one number.
+/// A namespace and its number. Equal namespaces have the same number.
 #[derive(Drop)]
 pub(crate) struct Namespace {
     pub(crate) text: Text,
     pub(crate) number: usize,
 }
 
-/// The full names that were defined so far, and the node of each.
+/// The full names defined so far, and the node of each.
 ///
-/// A namespace is compared with others only where it is written out. A name is kept by the number
-/// of its namespace, so a name that is written without one is defined and found in time that
-/// doesn't depend on the namespace's length.
+/// A namespace is compared with others only if the text writes it out. A name is kept by the number
+/// of its namespace, so the time to define or find a name without a dot doesn't depend on the
+/// length of the namespace.
 #[derive(Drop)]
 pub(crate) struct DefinedNames {
     numbers: BTreeMap<String, usize>,
-    /// For each number the last parts of the names in that namespace.
+    /// For each namespace, the last parts of its names and their nodes.
     nodes: Vec<BTreeMap<String, usize>>,
 }
 
@@ -36,7 +36,7 @@ impl DefinedNames {
         }
     }
 
-    /// The node of the name with that last part in the namespace of that number.
+    /// Returns the node of the name `last` in the namespace of that number.
     pub(crate) fn node_in(&self, number: usize, last: &str) -> Option<usize>
         ensures { result ≡ spec.node_in self.now number last.now }
     {
@@ -46,7 +46,7 @@ impl DefinedNames {
         }
     }
 
-    /// The node of the name with that last part in a namespace.
+    /// Returns the node of the name `last` in a namespace.
     pub(crate) fn node_of(&self, namespace: &str, last: &str) -> Option<usize>
         ensures { result ≡ spec.node_of self.now namespace.now last.now }
     {
@@ -56,7 +56,7 @@ impl DefinedNames {
         }
     }
 
-    /// The number of a namespace, which it has from now on.
+    /// Returns the number of a namespace, a new one if it has none.
     pub(crate) fn number_of(&mut self, alloc: Global, namespace: &str) -> Result<usize, AllocError>
         ensures numbered { IfOk result (λ i. spec.number_of self.new namespace.now ≡ Some i) }
         ensures kept { IfOk result (λ _. spec.KeepsNumbers self.old self.new) }
@@ -72,7 +72,7 @@ impl DefinedNames {
         Ok(number)
     }
 
-    /// Defines the name with that last part in the namespace of that number.
+    /// Defines the name `last` in the namespace of that number.
     pub(crate) fn define(
         &mut self,
         alloc: Global,

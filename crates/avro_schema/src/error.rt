@@ -4,31 +4,34 @@ use std::alloc::{AllocError, AllocFailed};
 use std::error::Error;
 use std::fmt;
 
-/// Why a text is no schema. Each fault is reported only where it is one; of several, any one.
+/// The error of reading a schema's text. Each fault is reported only if the text has it; if it has
+/// several, any one of them.
 #[derive(Debug, Drop)]
 pub enum SchemaError {
-    /// The text is no JSON, or its arrays and objects nest deeper than the JSON reader allows.
+    /// The text isn't JSON (RFC 8259), or nests more than 127 arrays and objects.
     NotJson,
-    /// A number somewhere in the text has a fraction or an exponent, is `-0`, or is no whole
-    /// number from -2^63 to 2^64-1.
+    /// A number anywhere in the text has a fraction or an exponent, is `-0`, or isn't an integer
+    /// from -2^63 to 2^64-1.
     FloatNumber,
-    /// A type's name or an alias is no name, or a type's name ends in a primitive's.
+    /// A type's name or alias isn't a valid full name (Avro 1.11, "Names"), or the last part of a
+    /// type's name is a primitive type's name.
     BadName,
     /// A full name is defined twice.
     Redefined,
-    /// This name, as it is used, is defined nowhere before.
+    /// The text uses this name, given as written, but doesn't define it before.
     Unknown(Text),
-    /// A union holds a union, or two types of one kind or of one full name.
+    /// A union has a union as a branch, or two branches of the same unnamed type or full name (Avro
+    /// 1.11, "Unions").
     BadUnion,
-    /// An enum's symbols are not distinct names, or its default is not one of them.
+    /// An enum's symbols aren't distinct names, or its default isn't one of them.
     BadEnum,
-    /// A fixed type's size is no whole number from 0 to `SIZE_LIMIT`.
+    /// A fixed type's size isn't an integer from 0 to `SIZE_LIMIT`, in bytes.
     BadFixed,
-    /// A member is missing or of the wrong form, or a record's fields are no distinct names.
+    /// A member is missing or malformed, or a record's field names aren't distinct names.
     BadForm,
-    /// More than `SCHEMA_NODES_LIMIT` types are written out.
+    /// The text writes out more than `SCHEMA_NODES_LIMIT` types.
     TooManyNodes,
-    /// The text is longer than `TEXT_LIMIT`.
+    /// The text is longer than `TEXT_LIMIT` bytes.
     TooLong,
     OutOfMemory,
 }
@@ -37,14 +40,14 @@ impl SchemaError {
     ghost use Rattle.std.specs.Prelude.{◌≡◌};
     ghost use Rattle.avro_schema.specs.Schema.{is_memory, error_name};
 
-    /// Whether memory was refused; else the text is no schema.
+    /// Returns whether memory was refused. If not, the text isn't a schema.
     pub fn is_memory(&self) -> bool
         ensures { result ≡ is_memory self.now }
     {
         matches!(self, SchemaError::OutOfMemory)
     }
 
-    /// The name of the fault.
+    /// Returns the name of the error, such as `BadName`.
     pub fn name(&self) -> &'static str
         ensures { result.now ≡ error_name self.now }
     {
@@ -100,8 +103,8 @@ impl<T: Drop> From<AllocFailed<T>> for SchemaError {
     }
 }
 
-/// The default of a field of this name is no value of the field's type. The name is lent by the
-/// schema, so that no memory is needed to report it.
+/// The error that a field's default isn't a value of the field's type. The field's name is borrowed
+/// from the schema, so reporting it allocates nothing.
 #[derive(Clone, Copy, Debug)]
 pub struct BadDefault<'s> {
     pub field: &'s Text,

@@ -18,7 +18,7 @@ use json_tree::Json;
 use named_list::NamedList;
 use std::alloc::{AllocError, Global};
 
-/// What a field is written with, its type apart.
+/// The parts of a field other than its type.
 #[derive(Drop)]
 pub(crate) struct FieldNames {
     pub(crate) name: Text,
@@ -27,7 +27,7 @@ pub(crate) struct FieldNames {
 }
 
 impl FieldNames {
-    /// The field of that type.
+    /// Makes the field, with this type.
     pub(crate) fn of_type(self, node: NodeId) -> Field
         ensures { result ≡ record { name = self.name; aliases = self.aliases.items; default = self.default; node = node } }
     {
@@ -45,14 +45,14 @@ impl FieldNames {
     }
 }
 
-/// The array that a record writes as its fields.
+/// Returns the array of a record's `fields` member.
 pub(crate) fn field_items<'v, 'a>(value: &'v Json<'a>) -> Option<&'v Vec<Json<'a>>>
     ensures { option_map (λ v. items_view v.now.items) result ≡ items_at (codes "fields") (view value.now) }
 {
     value.get("fields").and_then(Json::as_array)
 }
 
-/// Reads what a field is written with, its type apart.
+/// Reads the parts of a field other than its type.
 pub(crate) fn read_field_names(alloc: Global, value: &Json<'_>) -> Result<FieldNames, SchemaError>
     requires { IsPlain (view value.now) }
     ensures ok { IfOk result (HasFieldNames (field_heading_of (view value.now))) }
@@ -79,7 +79,7 @@ pub(crate) fn read_field_names(alloc: Global, value: &Json<'_>) -> Result<FieldN
     })
 }
 
-/// A field's default, where it has one.
+/// Returns a field's default, if it has one.
 fn default_of(alloc: Global, value: &Json<'_>) -> Result<Option<DefaultValue>, AllocError>
     requires { IsPlain (view value.now) }
     ensures { IfOk result (λ o. o ≡ get (codes "default") (view value.now)) }
@@ -90,14 +90,14 @@ fn default_of(alloc: Global, value: &Json<'_>) -> Result<Option<DefaultValue>, A
     }
 }
 
-/// Whether each of the texts is a name.
+/// Returns whether each of the texts is a valid name.
 pub(crate) fn are_names(texts: &[Text]) -> bool
     ensures { result ≡ list_all spec.is_name texts.now }
 {
     texts.iter().all(|text| is_name(text.as_str()))
 }
 
-/// The fields of a record, no two of which may have one name.
+/// Makes the list of a record's fields. Their names must be distinct, else `BadForm`.
 pub(crate) fn named_fields(
     alloc: Global,
     fields: Vec<Field>,
@@ -111,7 +111,7 @@ pub(crate) fn named_fields(
     }
 }
 
-/// The fields, unless two of them have one name.
+/// Makes the list of fields. `None` if two of them have the same name.
 fn distinct_fields(
     alloc: Global,
     fields: Vec<Field>,

@@ -21,11 +21,11 @@ use std::alloc::{AllocError, Global};
 pub(crate) struct TypeNames {
     pub(crate) name: FullName,
     pub(crate) aliases: Vec<FullName>,
-    /// The number of its namespace, where it has that of the type around it.
+    /// The number of its namespace, if it is that of the enclosing type.
     pub(crate) number: Option<usize>,
 }
 
-/// Reads the names of a type that an object writes, inside a type of the namespace `enclosing`.
+/// Reads the names of a type. `enclosing` is the namespace of the type around it.
 pub(crate) fn read_type_names(
     alloc: Global,
     value: &Json<'_>,
@@ -56,7 +56,7 @@ pub(crate) fn read_type_names(
     })
 }
 
-/// The number of the enclosing namespace, where a name takes that one.
+/// Returns the number of the enclosing namespace, if the name is in it.
 fn inherited(written: Option<&str>, name: &str, enclosing: &Namespace) -> Option<usize>
     ensures { (i : ℕ) → result ≡ Some i → (i ≡ enclosing.now.number) × (option_map (λ s. s.now) written.entry ≡ None) × (spec.has_dot name.now ≡ false) }
 {
@@ -66,7 +66,7 @@ fn inherited(written: Option<&str>, name: &str, enclosing: &Namespace) -> Option
     Some(enclosing.number)
 }
 
-/// The namespace that applies to a type's own name.
+/// Returns the namespace of a type's own name: the one written, else the enclosing one.
 fn own_namespace(
     alloc: Global,
     written: Option<&str>,
@@ -80,7 +80,7 @@ fn own_namespace(
     }
 }
 
-/// Whether a type may have a name and aliases.
+/// Returns whether a type's name and aliases are valid.
 fn may_name(name: &str, aliases: &[Text]) -> bool
     ensures { result ≡ (spec.is_type_name name.now && list_all spec.is_full_name aliases.now) }
 {
@@ -93,7 +93,7 @@ fn are_full_names(texts: &[Text]) -> bool
     texts.iter().all(|text| is_full_name(text.as_str()))
 }
 
-/// The full names that a type's aliases give.
+/// Returns the full names of a type's aliases.
 fn type_aliases(
     alloc: Global,
     namespace: &Text,

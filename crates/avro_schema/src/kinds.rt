@@ -1,11 +1,12 @@
-// What a union may have once.
+// The kinds of branches that a union may have once.
 ghost use Rattle.std.specs.Prelude.{◌≡◌, List, [], ◌∷◌, ◌++◌, IfOk};
 
 use crate::Primitive;
 use std::alloc::{AllocError, Global};
 use std::collections::BTreeSet;
 
-/// What a union may have once (Avro 1.11, "Unions"). A name stands for the type that it names.
+/// A kind of branch that a union may have once (Avro 1.11, "Unions"). A use of a name has the kind
+/// of the type that it names.
 #[derive(Clone, Copy)]
 pub(crate) enum BranchKind {
     Primitive(Primitive),
@@ -16,7 +17,7 @@ pub(crate) enum BranchKind {
     Union,
 }
 
-/// The kinds of the branches that were read so far.
+/// The kinds of the branches read so far.
 #[derive(Drop)]
 pub(crate) struct Kinds {
     primitives: Vec<Primitive>,
@@ -40,7 +41,7 @@ impl Kinds {
         }
     }
 
-    /// Adds a branch's kind, and says whether it may stand beside those before it.
+    /// Adds a branch's kind and returns whether it is allowed beside those before it.
     pub(crate) fn add(&mut self, kind: BranchKind) -> Result<bool, AllocError>
         ensures { IfOk result (λ fits. (ks : List BranchKind) → HoldsKinds self.old ks
             → HoldsKinds self.new (ks ++ kind ∷ []) × (fits ≡ may_stand kind ks)) }

@@ -6,12 +6,13 @@ ghost use Rattle.avro_schema.specs.Sound.{IsSound};
 
 use compact_length::compact_texts_are_no_longer;
 
-/// The nodes of each schema are sound.
+/// States that the nodes of every schema are sound: ids lead to nodes of the same schema, field
+/// names are distinct, and no branch of a union is a union.
 pub fn schemas_are_sound()
     ensures { (text : List ℕ) (m : Meaning) → schema_of text ≡ Some m → IsSound m.nodes }
 {}
 
-/// Each schema's normal text means the same schema.
+/// States that every schema's normal text reads back as the same schema.
 pub fn normal_texts_read_back()
     ensures { (text : List ℕ) (m : Meaning) → schema_of text ≡ Some m → schema_of m.normal_text ≡ Some m }
 {

@@ -1,4 +1,27 @@
 //! Avro schemas: what a schema's text says, as a list of nodes (Avro 1.11, "Schema Declaration").
+//!
+//! [`Schema::read`] reads a text. Each type that is written out is a node; a use of a
+//! name is the id of the node that defines it. So a recursive schema is a finite list, and readers
+//! follow ids.
+//!
+//! One idea: a schema is its normal text. That is its JSON without spaces, the members of each
+//! object in byte order of their names. It reads back as the same schema, so equal normal texts
+//! mean equal schemas. It isn't the standard's Parsing Canonical Form: it keeps documentation,
+//! aliases and defaults.
+//!
+//! [`SchemaText`] is a text that may be a schema's. Once read, it keeps the normal text and whether
+//! the defaults are valid.
+//!
+//! Not done here: logical types and JSON members that the standard doesn't define are ignored,
+//! numbers with a fraction or an exponent are refused anywhere in the text, and reading doesn't
+//! check defaults ([`Schema::check_defaults`] does). A text has at most 1,048,576 bytes and 65,535
+//! nodes.
+//!
+//! The main contract is that of [`Schema::read`]: its clause `ok` says that the nodes are what the
+//! text means, and `err` that each refusal is a fault of the text. The laws are
+//! [`normal_texts_read_back`] and [`schemas_are_sound`].
+//!
+//! Tests: `avro_cases`.
 #![tactic(auto)]
 
 mod branch_kinds;

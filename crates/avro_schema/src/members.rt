@@ -9,14 +9,14 @@ use base_text::Text;
 use json_tree::Json;
 use std::alloc::{AllocError, Global};
 
-/// The text that a member is.
+/// Returns the text of a member that is a string.
 pub(crate) fn string_at<'a>(value: &Json<'a>, name: &str) -> Option<&'a str>
     ensures { option_map (λ s. s.now) result ≡ spec.string_at name.now (view value.now) }
 {
     value.get(name).and_then(Json::as_str)
 }
 
-/// The texts of an array of strings, or None where the value is not such an array.
+/// Returns the texts of an array of strings. `None` if the value isn't one.
 fn strings_in(alloc: Global, value: &Json<'_>) -> Result<Option<Vec<Text>>, AllocError>
     ensures { IfOk result (λ o. option_map (λ v. v.items) o ≡ spec.strings_in (view value.now)) }
 {
@@ -33,7 +33,7 @@ fn strings_in(alloc: Global, value: &Json<'_>) -> Result<Option<Vec<Text>>, Allo
     Ok(Some(texts))
 }
 
-/// The texts of the array of strings that a member is, or None where it is not one.
+/// Returns the texts of a member that is an array of strings. `None` if it isn't one.
 pub(crate) fn strings_at(
     alloc: Global,
     value: &Json<'_>,
@@ -47,7 +47,7 @@ pub(crate) fn strings_at(
     }
 }
 
-/// The aliases that an object writes, none where the member is absent.
+/// Returns an object's `aliases`, empty if it has none. `None` if they aren't an array of strings.
 pub(crate) fn aliases_of(alloc: Global, value: &Json<'_>) -> Result<Option<Vec<Text>>, AllocError>
     ensures { IfOk result (λ o. option_map (λ v. v.items) o ≡ spec.aliases_of (view value.now)) }
 {
@@ -57,7 +57,7 @@ pub(crate) fn aliases_of(alloc: Global, value: &Json<'_>) -> Result<Option<Vec<T
     }
 }
 
-/// Whether a number somewhere in a value is no whole number of 64 bits.
+/// Returns whether any number in a value isn't an integer of 64 bits.
 #[cycle(has_float)]
 pub(crate) fn has_float(value: &Json<'_>) -> bool
     ensures { result ≡ written.has_float (view value.now) }

@@ -18,11 +18,11 @@ use base_text::{Listed, Text};
 use json_tree::Json;
 use std::alloc::Global;
 
-/// A type with a name whose node is open, but not written yet.
+/// A named type whose node is still a placeholder.
 #[derive(Drop)]
 pub(crate) struct OpenType {
     pub(crate) index: usize,
-    /// That of the types inside it.
+    /// The namespace of the types inside it.
     pub(crate) namespace: Namespace,
     pub(crate) name: FullName,
     pub(crate) aliases: Vec<FullName>,
@@ -33,7 +33,7 @@ impl Builder {
     ghost use Rattle.avro_schema.specs.DefinedNames.{IsNumbered};
     ghost use Rattle.avro_schema.specs.Building.{HasMet, opened, ReadsType, RefusesType, OpensType, ClosesRecord, opening_faults, enum_in, fixed_in};
 
-    /// Reads a name: a primitive's, or a use of a type.
+    /// Reads a name: a primitive type's, or a use of a defined type.
     pub(crate) fn read_name(
         &mut self,
         alloc: Global,
@@ -54,7 +54,7 @@ impl Builder {
         }
     }
 
-    /// Opens a type with a name, and defines the name.
+    /// Opens a named type and defines its name.
     pub(crate) fn open_type(
         &mut self,
         alloc: Global,
@@ -81,7 +81,7 @@ impl Builder {
         })
     }
 
-    /// Writes an open record with its fields, no two of which may have one name.
+    /// Completes an open record with its fields, whose names must be distinct.
     pub(crate) fn close_record(
         &mut self,
         alloc: Global,

@@ -8,7 +8,7 @@ use crate::{FullName, Primitive};
 use base_text::Text;
 use std::alloc::{AllocError, Global};
 
-/// The primitive type of that name.
+/// Returns the primitive type of that name.
 pub(crate) fn primitive_named(text: &str) -> Option<Primitive>
     ensures { result ≡ spec.primitive_named text.now }
 {
@@ -37,7 +37,7 @@ fn goes_on_name(byte: u8) -> bool
     byte.is_ascii_alphanumeric() || byte == b'_'
 }
 
-/// Whether a text is a name.
+/// Returns whether a text is a valid name (Avro 1.11, "Names").
 pub(crate) fn is_name(text: &str) -> bool
     ensures { result ≡ spec.is_name text.now }
 {
@@ -53,28 +53,28 @@ fn all_go_on(bytes: &[u8]) -> bool
     bytes.iter().all(|byte| goes_on_name(*byte))
 }
 
-/// Whether each part of a text between dots is a name.
+/// Returns whether each part of a text between dots is a valid name.
 pub(crate) fn is_full_name(text: &str) -> bool
     ensures { result ≡ spec.is_full_name text.now }
 {
     text.split('.').all(is_name)
 }
 
-/// Whether a text may name a type.
+/// Returns whether a text may name a type: a full name whose last part isn't a primitive's.
 pub(crate) fn is_type_name(text: &str) -> bool
     ensures { result ≡ spec.is_type_name text.now }
 {
     is_full_name(text) && primitive_named(last_part(text)).is_none()
 }
 
-/// Whether a text is its own full name, whichever namespace applies.
+/// Returns whether a text has a dot, so that it is a full name in any namespace.
 pub(crate) fn has_dot(text: &str) -> bool
     ensures { result ≡ spec.has_dot text.now }
 {
     text.as_bytes().contains(&b'.')
 }
 
-/// What stands after the last dot.
+/// Returns the part after the last dot.
 fn last_part(text: &str) -> &str
     ensures { result.now ≡ after_last spec.is_dot text.now }
 {
@@ -84,7 +84,7 @@ fn last_part(text: &str) -> &str
     }
 }
 
-/// What a text names where a namespace applies.
+/// Returns the full name of a text in a namespace. Only a text without a dot takes it.
 pub(crate) fn full_name(alloc: Global, namespace: &Text, text: &str) -> Result<FullName, AllocError>
     ensures name { IfOk result (λ n. n ≡ spec.full_name namespace.now text.now) }
     ensures last { IfOk result (λ n. spec.has_dot n.name ≡ false) }

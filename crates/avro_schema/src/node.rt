@@ -21,13 +21,14 @@ pub enum Primitive {
 /// The name of a record, an enum or a fixed type, or an alias of it (Avro 1.11, "Names").
 #[derive(Debug, Drop)]
 pub struct FullName {
-    /// What stands before the last dot; the null namespace is the empty text.
+    /// The part before the last dot; empty in the null namespace.
     pub namespace: Text,
-    /// The last part.
+    /// The part after the last dot.
     pub name: Text,
 }
 
-/// Which node of its schema, counted from 0 in the order in which the types open in the text.
+/// The id of a node in its schema. Nodes are counted from 0 in the order in which their types open
+/// in the text.
 #[derive(Clone, Copy, Debug, PartialEq, Eq)]
 pub struct NodeId {
     pub index: usize,
@@ -38,9 +39,9 @@ pub struct NodeId {
 pub struct Field {
     pub name: Text,
     pub aliases: Listed<Text>,
-    /// Its default, where it has one.
+    /// The default, if it has one.
     pub default: Option<DefaultValue>,
-    /// Its type.
+    /// The field's type.
     pub node: NodeId,
 }
 
@@ -52,8 +53,8 @@ impl Named for Field {
     }
 }
 
-/// A type that is written out (Avro 1.11, "Complex Types"). A use of a defined name is no node of
-/// its own, but the id of the definition's.
+/// A type that the schema's text writes out (Avro 1.11, "Complex Types"). A use of a defined name
+/// has no node of its own; it is the id of the definition's node.
 #[derive(Drop)]
 pub enum Node {
     Primitive(Primitive),
@@ -68,16 +69,16 @@ pub enum Node {
         symbols: NamedList<Text>,
         default: Option<Text>,
     },
-    /// An array of items of this type.
+    /// An array with items of this type.
     Array(NodeId),
-    /// A map to values of this type.
+    /// A map with values of this type.
     Map(NodeId),
     /// A union of these branches.
     Union(Listed<NodeId>),
     Fixed {
         name: FullName,
         aliases: Listed<FullName>,
-        /// In bytes.
+        /// The size in bytes, at most `SIZE_LIMIT`.
         size: u32,
     },
 }

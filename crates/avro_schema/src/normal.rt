@@ -12,7 +12,7 @@ use compact_length::compact_texts_are_no_longer;
 use json_tree::Json;
 use std::alloc::{AllocError, Global};
 
-/// The normal text of a schema that was read from `text`. The only error is out of memory.
+/// Writes the normal text of the schema in `text`. The only error is out of memory.
 pub(crate) fn normal_of(alloc: Global, text: &str, value: &Json<'_>) -> Result<Text, AllocError>
     requires of_text { read text.now ≡ Some (view value.now) }
     requires within { length text.now ≤ TEXT_LIMIT }

@@ -20,7 +20,7 @@ impl Builder {
     ghost use Rattle.avro_schema.specs.DefinedNames.{IsNumbered};
     ghost use Rattle.avro_schema.specs.Building.{ReadsType, RefusesType, ReadsBranches, RefusesBranches, ReadsField, RefusesField, ReadsFields, RefusesFields, is_object, form_in, record_in, array_in, map_in};
 
-    /// Reads a type inside a type of that namespace.
+    /// Reads a type. `namespace` is that of the type around it.
     #[cycle(types)]
     pub(crate) fn read_type(
         &mut self,
@@ -68,7 +68,7 @@ impl Builder {
         }
     }
 
-    /// Reads the type that a member writes.
+    /// Reads the type of a member.
     #[cycle(types)]
     fn read_member(
         &mut self,

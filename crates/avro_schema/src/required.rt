@@ -6,7 +6,7 @@ use crate::{Field, Node};
 use base_text::{Listed, Text};
 use std::alloc::{AllocError, Global};
 
-/// For each node the names of its fields without a default. A node that is no record has none.
+/// Returns, for each node, the names of its fields without a default; none if it isn't a record.
 pub(crate) fn required_fields(
     alloc: Global,
     nodes: &[Node],

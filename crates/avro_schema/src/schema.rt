@@ -16,11 +16,11 @@ use json_tree::{Json, JsonError};
 use std::alloc::{AllocError, Global};
 use std::marker::Model;
 
-/// A schema that was read. Contracts see its nodes, the root first, and its normal text.
+/// A schema, read from its text. Contracts see its nodes, the root first, and its normal text.
 #[derive(Drop)]
 pub struct Schema {
     nodes: Vec<Node>,
-    /// For each node the names of its fields without a default.
+    /// For each node, the names of its fields without a default.
     required: Vec<Listed<Text>>,
     normal: Text,
 }
@@ -48,11 +48,11 @@ impl Schema {
     ghost use Rattle.avro_schema.specs.Sound.{IsSound, parts_of_node};
     ghost use Rattle.avro_schema.specs.Required.{required_of};
 
-    /// Reads a schema's text: JSON of at most `TEXT_LIMIT` bytes.
+    /// Reads a schema's text: JSON of at most `TEXT_LIMIT` bytes (Avro 1.11, "Schema Declaration").
     ///
-    /// A name is looked up among the types that open before it: one with a dot as it is written,
-    /// another in the namespace that applies, else in the null namespace. Defaults aren't checked.
-    /// The errors are those of `SchemaError`, each only where that fault stands.
+    /// A name must be defined before its use. A name with a dot is looked up as written; another in
+    /// the enclosing namespace, then in the null namespace. Defaults aren't checked. Errors are
+    /// those of [`SchemaError`], each only if the text has that fault.
     pub fn read(alloc: Global, text: &str) -> Result<Schema, SchemaError>
         ensures ok { IfOk result (λ s. schema_of text.now ≡ Some s) }
         ensures err { IfErr result (IsRefusalBy (faults text.now)) }
@@ -65,7 +65,7 @@ impl Schema {
         Schema::of_json(alloc, text, &value)
     }
 
-    /// The schema that a JSON value writes, which is that of `text`.
+    /// Reads the schema from the JSON value of `text`.
     fn of_json(alloc: Global, text: &str, value: &Json<'_>) -> Result<Schema, SchemaError>
         requires of_text { json_of text.now ≡ Some (view value.now) }
         requires within { length text.now ≤ TEXT_LIMIT }
@@ -87,7 +87,7 @@ impl Schema {
         })
     }
 
-    /// Reads a schema's text where it is one. The only error is out of memory.
+    /// Reads a text. `None` if it isn't a schema's. The only error is out of memory.
     pub fn read_if_any(alloc: Global, text: &str) -> Result<Option<Schema>, AllocError>
         ensures { IfOk result (λ found. found ≡ schema_of text.now) }
     {
@@ -102,10 +102,9 @@ impl Schema {
         }
     }
 
-    /// The schema's JSON with no spaces, the members of each object in byte order of their names.
-    ///
-    /// It is a schema's text of its own, and means this schema. Two schemas are the same where
-    /// their normal texts are equal.
+    /// Returns the normal text: the schema's JSON without spaces, the members of each object in
+    /// byte order of their names. It reads back as this schema, so schemas with equal normal texts
+    /// are equal.
     pub fn normal(&self) -> &Text
         ensures text { result.now ≡ self.now.normal_text }
         ensures reads_back { schema_of self.now.normal_text ≡ Some self.now }
@@ -113,7 +112,7 @@ impl Schema {
         &self.normal
     }
 
-    /// A copy of the normal text. The only error is out of memory.
+    /// Copies the normal text. The only error is out of memory.
     pub fn normal_text(&self) -> Result<String, AllocError>
         ensures text { IfOk result (λ s. string_bytes s ≡ self.now.normal_text) }
         ensures reads_back { schema_of self.now.normal_text ≡ Some self.now }
@@ -127,14 +126,14 @@ impl Schema {
         &self.nodes
     }
 
-    /// The names of the fields of a node that have no default.
+    /// Returns the names of a node's fields that have no default. `None` if there is no such node.
     pub(crate) fn required(&self, id: NodeId) -> Option<&Listed<Text>>
         ensures { option_copied result ≡ option_map required_of (slice_get self.now.nodes id.index) }
     {
         self.required.get(id.index)
     }
 
-    /// The number of nodes, at least one.
+    /// Returns the number of nodes, from 1 to `SCHEMA_NODES_LIMIT`.
     pub fn node_count(&self) -> usize
         ensures count { result ≡ length self.now.nodes }
         ensures sound { IsSound self.now.nodes }
@@ -143,7 +142,7 @@ impl Schema {
         self.nodes.len()
     }
 
-    /// The node of the whole schema.
+    /// Returns the id of the schema's own type, which is 0.
     pub fn root(&self) -> NodeId
         ensures first { result ≡ record { index = 0 } }
         ensures within { result.index < length self.now.nodes }
@@ -153,7 +152,7 @@ impl Schema {
         NodeId { index: 0 }
     }
 
-    /// The node of that id.
+    /// Returns the node of an id, which must be below `node_count`.
     pub fn node(&self, id: NodeId) -> &Node
         requires { id.index < length self.now.nodes }
         ensures at { slice_get self.now.nodes id.index ≡ Some result.now }
@@ -164,7 +163,8 @@ impl Schema {
         &self.nodes[id.index]
     }
 
-    /// The full name of the node of that id, where it is a record, an enum or a fixed type.
+    /// Returns the full name of a record, an enum or a fixed type. `None` for other types. The id
+    /// must be below `node_count`.
     pub fn name_of(&self, id: NodeId) -> Option<&FullName>
         requires { id.index < length self.now.nodes }
         ensures { option_copied result ≡ name_in (slice_get self.now.nodes id.index) }

@@ -1,4 +1,4 @@
-// A text that may be a schema's, with what reading it gave.
+// A text that may be a schema's, and the kept result of reading it.
 ghost use Rattle.std.specs.Prelude.{◌≡◌, true, IfOk, IfSome, Some, option_map};
 ghost use Rattle.avro_schema.specs.Schema.{is_schema, schema_of};
 ghost use Rattle.avro_schema.specs.Reading.{has_valid_defaults, kept_of, normal_of, reading_of};
@@ -11,7 +11,7 @@ use std::alloc::{AllocError, Global};
 use std::fmt;
 use std::marker::Model;
 
-/// What a registry asks of a schema that was read.
+/// The part of a schema that a registry keeps: its normal text, and whether its defaults are valid.
 #[derive(Debug, Drop)]
 pub struct SchemaReading {
     normal: Text,
@@ -31,7 +31,7 @@ impl Model for SchemaReading {
 }
 
 impl SchemaReading {
-    /// What is asked of that schema. The only error is out of memory.
+    /// Takes these from a schema. The only error is out of memory.
     fn of(schema: &Schema) -> Result<SchemaReading, AllocError>
         ensures { IfOk result (λ reading. reading ≡ kept_of schema.now) }
     {
@@ -43,7 +43,7 @@ impl SchemaReading {
         })
     }
 
-    /// Its normal text, which is that of a schema.
+    /// Returns the schema's normal text, which reads as a schema.
     pub fn normal(&self) -> &Text
         ensures text { result.now ≡ self.now.normal }
         ensures is_read { is_schema self.now.normal ≡ true }
@@ -51,14 +51,14 @@ impl SchemaReading {
         &self.normal
     }
 
-    /// Whether each default in it is a value of its field's type.
+    /// Returns whether each default in the schema is a value of its field's type.
     pub fn has_valid_defaults(&self) -> bool
         ensures { result ≡ self.now.has_valid_defaults }
     {
         self.has_valid_defaults
     }
 
-    /// The schema, read from its normal text. The only error is out of memory.
+    /// Reads the schema from its normal text. The only error is out of memory.
     pub fn schema(&self, alloc: Global) -> Result<Schema, AllocError>
         ensures { IfOk result (λ schema. schema_of self.now.normal ≡ Some schema) }
     {
@@ -80,7 +80,7 @@ impl Clone for SchemaReading {
     }
 }
 
-/// A text whose normal text is known. Contracts see nothing of it.
+/// A text with its normal text, so that it needn't be read again. Contracts see nothing of it.
 #[derive(Drop)]
 pub struct KnownNormal<'a> {
     text: &'a Text,
@@ -99,14 +99,14 @@ impl<'a> Model for KnownNormal<'a> {
 }
 
 impl<'a> KnownNormal<'a> {
-    /// Those two.
+    /// Pairs a text with its normal text.
     pub fn new(text: &'a Text, normal: &'a Text) -> KnownNormal<'a>
         requires { normal_of text.now ≡ Some normal.now }
     {
         KnownNormal { text, normal }
     }
 
-    /// The normal text of that text, where it is the known one. Takes no memory.
+    /// Returns the normal text of `text` if that is the known text, else `None`. Allocates nothing.
     pub fn of(&self, text: &Text) -> Option<&'a Text>
         ensures { IfSome result (λ normal. normal_of text.now ≡ Some normal.now) }
     {
@@ -117,7 +117,7 @@ impl<'a> KnownNormal<'a> {
     }
 }
 
-/// A text that was read, and what that gave. Contracts see the text, which determines the rest.
+/// A text and the result of reading it. Contracts see the text, which determines the rest.
 #[derive(Debug, Drop)]
 struct ReadText {
     text: Text,
@@ -136,7 +136,7 @@ impl Model for ReadText {
 }
 
 impl ReadText {
-    /// The text of that schema, or of none.
+    /// Makes it from a text and the schema read from it, if there was one.
     fn of(text: Text, schema: &Option<Schema>) -> Result<ReadText, AllocError>
         requires { schema.now ≡ schema_of text }
         ensures { IfOk result (λ read. read ≡ text) }
@@ -151,7 +151,8 @@ impl ReadText {
         &self.found
     }
 
-    /// That the normal text of its schema is its own normal text.
+    /// Returns a [`KnownNormal`] of the schema's normal text, whose normal text is itself. `None`
+    /// if the text isn't a schema's.
     fn known(&self) -> Option<KnownNormal<'_>> {
         normal_texts_read_back();
         match &self.found {
@@ -173,7 +174,8 @@ impl ReadText {
     }
 }
 
-/// A text that may be a schema's. What reading it gave is kept beside it, so that it is read once, whoever asks. Contracts see the text.
+/// A text that may be a schema's. It keeps the result of reading it, so that later callers needn't
+/// read it again. Contracts see the text.
 #[derive(Drop)]
 pub struct SchemaText {
     alloc: Global,
@@ -190,7 +192,7 @@ impl Model for SchemaText {
 }
 
 impl SchemaText {
-    /// A text that nobody has read. Takes no memory.
+    /// Makes one from a text, without reading it. Allocates nothing.
     pub fn new(alloc: Global, text: Text) -> SchemaText
         ensures { result ≡ text }
     {
@@ -201,22 +203,22 @@ impl SchemaText {
         }
     }
 
-    /// The text itself.
+    /// Returns the text.
     pub fn text(&self) -> &Text
         ensures { result.now ≡ self.now }
     {
         &self.text
     }
 
-    /// The text itself.
+    /// Returns the text as a `&str`.
     pub fn as_str(&self) -> &str
         ensures { result.now ≡ self.now }
     {
         self.text.as_str()
     }
 
-    /// Reads the text, whether or not it was read before, and keeps what a registry asks of its schema, where there is memory for that. `None`
-    /// where it is no schema's. The only error is out of memory.
+    /// Reads the text, even if it was read before, and keeps the [`SchemaReading`] if memory
+    /// allows. `None` if the text isn't a schema's. The only error is out of memory.
     pub fn schema(&self) -> Result<Option<Schema>, AllocError>
         ensures { IfOk result (λ found. found ≡ schema_of self.now) }
     {
@@ -225,7 +227,8 @@ impl SchemaText {
         Ok(schema)
     }
 
-    /// What a registry asks of its schema, as it is kept, or read now. `None` where it is no schema's. The only error is out of memory.
+    /// Returns the kept [`SchemaReading`], or reads the text now. `None` if it isn't a schema's.
+    /// The only error is out of memory.
     pub fn reading(&self) -> Result<Option<SchemaReading>, AllocError>
         ensures { IfOk result (λ found. found ≡ reading_of self.now) }
     {
@@ -235,12 +238,13 @@ impl SchemaText {
         }
     }
 
-    /// That the normal text of its schema is its own normal text, where it was read. Takes no memory.
+    /// Returns a [`KnownNormal`] of the schema's normal text, whose normal text is itself. `None`
+    /// if the text wasn't read yet or isn't a schema's. Allocates nothing.
     pub fn known(&self) -> Option<KnownNormal<'_>> {
         self.read.get()?.known()
     }
 
-    /// Keeps that it was read. The only error is out of memory, and changes nothing.
+    /// Keeps the result of reading. The only error is out of memory, which changes nothing.
     fn keep(&self, schema: &Option<Schema>) -> Result<(), AllocError>
         requires { schema.now ≡ schema_of self.now }
     {
@@ -250,7 +254,7 @@ impl SchemaText {
         Ok(())
     }
 
-    /// What was kept of this text.
+    /// Returns the kept result of reading this text, if there is one.
     fn kept(&self) -> Option<&ReadText>
         ensures { IfSome result (λ read. read.now ≡ self.now) }
     {
@@ -261,7 +265,7 @@ impl SchemaText {
     }
 }
 
-/// What a registry asks of a schema. The only error is out of memory.
+/// Makes the reading of a schema, if there is one. The only error is out of memory.
 fn reading(schema: &Option<Schema>) -> Result<Option<SchemaReading>, AllocError>
     ensures { IfOk result (λ found. found ≡ option_map kept_of schema.now) }
 {

@@ -39,7 +39,7 @@ pub(crate) fn read_symbols(alloc: Global, value: &Json<'_>) -> Result<Symbols, S
     Ok(Symbols { symbols, default })
 }
 
-/// The symbols that an enum writes, which are distinct names.
+/// Makes the list of an enum's symbols. They must be distinct names, else `BadEnum`.
 fn symbol_list(alloc: Global, written: Vec<Text>) -> Result<NamedList<Text>, SchemaError>
     ensures ok { IfOk result (λ list. (list ≡ written.items) × (list_all is_name written.items && all_distinct bytes_eq written.items ≡ true)) }
     ensures err { IfErr result (IsRefusalBy (unless (list_all is_name written.items && all_distinct bytes_eq written.items) SchemaError.BadEnum)) }
@@ -53,7 +53,7 @@ fn symbol_list(alloc: Global, written: Vec<Text>) -> Result<NamedList<Text>, Sch
     }
 }
 
-/// Reads an enum's default, where it has one.
+/// Reads an enum's default, if it has one.
 fn default_symbol(
     alloc: Global,
     value: &Json<'_>,
@@ -69,7 +69,7 @@ fn default_symbol(
     }
 }
 
-/// The symbols, unless two of them are the same.
+/// Makes the list of symbols. `None` if two of them are the same.
 fn distinct_symbols(
     alloc: Global,
     symbols: Vec<Text>,
@@ -81,7 +81,7 @@ fn distinct_symbols(
     NamedList::of(alloc, symbols)
 }
 
-/// Reads an enum's default, which is one of its symbols.
+/// Reads an enum's default, which must be one of its symbols.
 fn read_symbol(alloc: Global, value: &Json<'_>, symbols: &[Text]) -> Result<Text, SchemaError>
     ensures ok { IfOk result (λ t. (as_str (view value.now) ≡ Some t) × (option_map_or (has_text symbols.now) (as_str (view value.now)) false ≡ true)) }
     ensures err { IfErr result (IsRefusalBy (unless (option_map_or (has_text symbols.now) (as_str (view value.now)) false) SchemaError.BadEnum)) }
@@ -102,7 +102,7 @@ fn has_symbol(symbols: &[Text], symbol: &Text) -> bool
     symbols.iter().any(|other| symbol == other)
 }
 
-/// Reads the size of a fixed type.
+/// Reads the size of a fixed type, in bytes.
 pub(crate) fn read_size(value: &Json<'_>) -> Result<u32, SchemaError>
     ensures ok { IfOk result (HasSize (number_at (codes "size") (view value.now))) }
     ensures err { IfErr result (IsRefusalBy (size_faults (number_at (codes "size") (view value.now)))) }

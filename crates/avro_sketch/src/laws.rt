@@ -7,7 +7,7 @@ ghost use Rattle.avro_sketch.specs.Sketch.{HaveOneSketch};
 use avro_data::samples_are_single;
 use avro_resolve::schemas_have_one_verdict;
 
-/// Two sketches of the same two lists of nodes are equal.
+/// States that two sketches of the same two schemas are equal. Costs nothing at run time.
 pub fn schemas_have_one_sketch()
     ensures { (r w : List Node) → HaveOneSketch r w }
 {

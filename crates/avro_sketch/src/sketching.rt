@@ -19,16 +19,16 @@ use avro_resolve::base_text::Text;
 use avro_resolve::{Trail, Verdict, resolve};
 use std::alloc::{AllocError, Global};
 
-/// The sketch of a reader's schema `r` and a writer's `w`, in lines that end in LF.
+/// Returns the sketch of a reader's schema `r` and a writer's `w`, in lines that end in LF.
 ///
-/// The first is `compatible`, or `clash at` with the trail and its clash. The second is `value` with
-/// the writer's sample, `value too large` where the sample is past the limits of `sample`, or `no
-/// finite value`. After a value the third is `reads` with its reading, `too large` where that is past
-/// these limits, or `unreadable`.
+/// The first line is `compatible`, or `clash at` with the place and the kind of the clash. The
+/// second is `value` with the writer's sample, `value too large` if the sample is past the limits
+/// of `sample`, or `no finite value`. After a value the third is `reads` with its reading, `too
+/// large` if that is past these limits, or `unreadable`.
 ///
-/// A clash says that a value of the writer's may be unreadable; the sample may have a reading all the
-/// same. Whether defaults are valid doesn't count. The names in the text are shared with the schemas,
-/// so it may be longer than what memory holds. The only error is out of memory.
+/// A clash says that a value of the writer's may be unreadable; the sample may have a reading all
+/// the same. Whether defaults are valid doesn't count. Names are shared with the schemas, so the
+/// text may be longer than memory could hold. The only error is out of memory.
 pub fn sketch_text(alloc: Global, r: &Schema, w: &Schema) -> Result<PiecedText, AllocError>
     ensures sketch { IfOk result (λ text. IsSketch r.now.nodes w.now.nodes text) }
     ensures one_sketch { HaveOneSketch r.now.nodes w.now.nodes }

@@ -19,7 +19,7 @@ impl<T> Model for Listed<T> {
 }
 
 impl<T> Listed<T> {
-    /// The elements, in their order.
+    /// Returns the elements, in their order.
     pub fn as_slice(&self) -> &[T]
         ensures { result.now ≡ self.now }
     {
@@ -44,7 +44,8 @@ impl<T> From<Listed<T>> for Vec<T> {
     }
 }
 
-/// Element by element; where an element's clone equals it, the list's does.
+/// Clones element by element. If clones of elements equal their originals, the list's clone does
+/// too.
 impl<T: Clone> Clone for Listed<T> {
     ghost use Rattle.std.specs.List.{AllZip};
 

@@ -12,8 +12,8 @@ use std::sync::ArcStr;
 
 /// A UTF-8 text, which contracts see as the list of its bytes.
 ///
-/// Two texts are equal where their bytes are, and they are ordered by their bytes. A clone shares the
-/// bytes of its original: it copies none and takes no memory.
+/// Texts are compared and ordered by their bytes. A clone shares the bytes of its original: it
+/// copies nothing and allocates nothing.
 #[derive(Debug)]
 pub struct Text {
     // `None` for the empty text, which takes no memory.
@@ -31,14 +31,14 @@ impl Model for Text {
 }
 
 impl Text {
-    /// The text with no bytes, which takes no memory.
+    /// Returns the empty text. Allocates nothing.
     pub fn empty() -> Text
         ensures { result ≡ [] }
     {
         Text { shared: None }
     }
 
-    /// A copy of `text`. The only error is out of memory.
+    /// Copies `text`. The only error is out of memory.
     pub fn copy_of(alloc: Global, text: &str) -> Result<Text, AllocError>
         ensures { IfOk result (λ t. t ≡ text.now) }
     {
@@ -47,7 +47,7 @@ impl Text {
         })
     }
 
-    /// The text that a string holds, whose bytes stay where they are. The only error is out of memory.
+    /// Turns a string into a text without copying its bytes. The only error is out of memory.
     pub fn of_string(string: String) -> Result<Text, AllocError>
         ensures { IfOk result (λ t. t ≡ string_bytes string) }
     {
@@ -56,7 +56,7 @@ impl Text {
         })
     }
 
-    /// The text itself.
+    /// Returns the text as a `&str`.
     pub fn as_str(&self) -> &str
         ensures { result.now ≡ self.now }
     {
@@ -67,7 +67,7 @@ impl Text {
     }
 }
 
-/// Gives up its share of the bytes.
+/// Gives up this clone's share of the bytes.
 impl Drop for Text {
     fn drop(self) {
         let Text { shared } = self;

@@ -1,10 +1,10 @@
-// Texts as they stand in a line.
+// Texts as they are written in a line.
 ghost use Rattle.std.specs.Prelude.{◌≡◌, ◌++◌, OnOk};
 ghost use Rattle.exposition.specs.Escapes.{escaped, escaped_byte};
 
 use std::alloc::AllocError;
 
-/// Appends a text as it is. The only error is out of memory.
+/// Appends a text unchanged. The only error is out of memory.
 pub(crate) fn push(out: &mut Vec<u8>, text: &str) -> Result<(), AllocError>
     ensures { OnOk result (out.new.items ≡ out.old.items ++ text.now) }
 {
@@ -12,7 +12,7 @@ pub(crate) fn push(out: &mut Vec<u8>, text: &str) -> Result<(), AllocError>
     Ok(())
 }
 
-/// Appends a text with what has to be escaped, in quotes or outside of them. The only error is out of memory.
+/// Appends a text, escaped for quotes or for a help text. The only error is out of memory.
 pub(crate) fn push_escaped(out: &mut Vec<u8>, in_quotes: bool, text: &str) -> Result<(), AllocError>
     ensures { OnOk result (out.new.items ≡ out.old.items ++ escaped in_quotes text.now) }
 {

@@ -5,7 +5,7 @@ ghost use Rattle.exposition.specs.Names.{is_label_name};
 use crate::name::Fixed;
 use std::marker::Model;
 
-/// The name of a label, which contracts see as its bytes.
+/// The name of a label. Contracts see its bytes.
 #[derive(Drop)]
 pub struct LabelName {
     bytes: &'static str,
@@ -23,7 +23,8 @@ impl Model for LabelName {
 }
 
 impl LabelName {
-    /// The name that is written so.
+    /// Makes the name with that text: ASCII letters, digits and `_`, no digit first. It isn't `le`
+    /// and doesn't begin with `__`.
     pub fn of(text: &'static str) -> LabelName
         requires { IsTrue (is_label_name text.now) }
         ensures { result ≡ text.now }
@@ -31,7 +32,7 @@ impl LabelName {
         LabelName { bytes: text }
     }
 
-    /// Its text.
+    /// Returns its text.
     pub fn as_str(&self) -> &'static str
         ensures text { result.now ≡ self.now }
         ensures name { IsTrue (is_label_name self.now) }

@@ -13,7 +13,7 @@ use crate::label::LabelPair;
 use crate::number::{Number, push_number};
 use std::alloc::AllocError;
 
-/// Appends the line that says what a metric means.
+/// Appends the `# HELP` line of a metric.
 pub(crate) fn push_help(out: &mut Vec<u8>, name: &str, help: &str) -> Result<(), AllocError>
     ensures { OnOk result (out.new.items ≡ out.old.items ++ (line_text (help_of name.now help.now) ++ codes "\n")) }
 {
@@ -24,7 +24,7 @@ pub(crate) fn push_help(out: &mut Vec<u8>, name: &str, help: &str) -> Result<(),
     push(out, "\n")
 }
 
-/// Appends a sample's line. Its name is in two parts.
+/// Appends the line of a sample. The name is `name` and `suffix` together.
 pub(crate) fn push_sample(
     out: &mut Vec<u8>,
     name: &str,
@@ -59,7 +59,7 @@ pub(crate) fn push_count(
     push_end(out, count, 0)
 }
 
-/// Appends the line of a bucket with that bound, or with none.
+/// Appends the line of a bucket with that bound in microseconds; `None` is `+Inf`.
 pub(crate) fn push_bucket(
     out: &mut Vec<u8>,
     name: &str,
@@ -76,7 +76,7 @@ pub(crate) fn push_bucket(
     push_end(out, count, 0)
 }
 
-/// Appends a space, a number and the line's end.
+/// Appends a space, a number and the end of the line.
 fn push_end(out: &mut Vec<u8>, units: u128, millionths: u32) -> Result<(), AllocError>
     requires { millionths < 1000000 }
     ensures { OnOk result (out.new.items
@@ -130,7 +130,7 @@ fn push_label(out: &mut Vec<u8>, label: &LabelPair) -> Result<(), AllocError>
     push(out, "\"")
 }
 
-/// Appends the labels of a bucket, the bound last.
+/// Appends the labels of a bucket; its bound (`le`) is the last.
 fn push_bucket_labels(
     out: &mut Vec<u8>,
     labels: &[LabelPair],
@@ -161,7 +161,7 @@ fn push_before_comma(out: &mut Vec<u8>, label: &LabelPair) -> Result<(), AllocEr
     push(out, ",")
 }
 
-/// Appends a bound as it stands in quotes: nothing in it has to be escaped.
+/// Appends a bound in quotes, in seconds. Nothing in it has to be escaped.
 #[tactic(auto, using(crate::proofs::Numbers::number_divided, crate::proofs::Numbers::escaped_number))]
 fn push_bound(out: &mut Vec<u8>, bound: Option<u64>) -> Result<(), AllocError>
     ensures { OnOk result (out.new.items ≡ out.old.items ++ escaped true (bound_text bound)) }

@@ -4,7 +4,7 @@ ghost use Rattle.exposition.specs.Names.{is_name};
 
 use std::marker::Model;
 
-/// The name of a metric, which contracts see as its bytes.
+/// The name of a metric. Contracts see its bytes.
 #[derive(Drop)]
 pub struct Name {
     bytes: &'static str,
@@ -22,7 +22,7 @@ impl Model for Name {
 }
 
 impl Name {
-    /// The name that is written so.
+    /// Makes the name with that text: ASCII letters, digits, `_` and `:`, no digit first.
     pub fn of(text: &'static str) -> Name
         requires { IsTrue (is_name text.now) }
         ensures { result ≡ text.now }
@@ -30,7 +30,7 @@ impl Name {
         Name { bytes: text }
     }
 
-    /// Its text.
+    /// Returns its text.
     pub fn as_str(&self) -> &'static str
         ensures text { result.now ≡ self.now }
         ensures name { IsTrue (is_name self.now) }
@@ -39,7 +39,7 @@ impl Name {
     }
 }
 
-/// A text of the program's own, which contracts see as its bytes. No text that came from elsewhere is one.
+/// A text that is part of the program, so never one from a client. Contracts see its bytes.
 #[derive(Drop)]
 pub struct Fixed {
     bytes: &'static str,
@@ -54,14 +54,14 @@ impl Model for Fixed {
 }
 
 impl Fixed {
-    /// That text.
+    /// Makes it of that text.
     pub fn of(text: &'static str) -> Fixed
         ensures { result ≡ text.now }
     {
         Fixed { bytes: text }
     }
 
-    /// The text.
+    /// Returns the text.
     pub fn as_str(&self) -> &'static str
         ensures { result.now ≡ self.now }
     {

@@ -8,7 +8,7 @@ use itoa::Buffer;
 use std::alloc::AllocError;
 use std::marker::Model;
 
-/// A number of 0 or more with at most six places after its point, which contracts see as how many millionths it has.
+/// A number of 0 or more with at most six places after its point. Contracts see it in millionths.
 #[derive(Drop)]
 pub struct Number {
     units: u64,
@@ -26,7 +26,7 @@ impl Model for Number {
 }
 
 impl Number {
-    /// A whole number.
+    /// Makes a whole number.
     pub fn whole(number: u64) -> Number
         ensures { result ≡ whole number }
     {
@@ -36,7 +36,7 @@ impl Number {
         }
     }
 
-    /// So many microseconds, in seconds.
+    /// Makes a number of seconds from microseconds.
     pub fn seconds(microseconds: u64) -> Number
         ensures { result ≡ microseconds }
     {
@@ -46,7 +46,7 @@ impl Number {
         }
     }
 
-    /// Its whole part, and its millionths.
+    /// Returns its whole part and its millionths.
     pub(crate) fn parts(&self) -> (u64, u32)
         ensures value { result.0 * 1000000 + result.1 ≡ self.now }
         ensures bound { result.1 < 1000000 }
@@ -56,7 +56,7 @@ impl Number {
     }
 }
 
-/// Appends a number, by its whole part and its millionths. The only error is out of memory.
+/// Appends a number, given as its whole part and its millionths. The only error is out of memory.
 pub(crate) fn push_number(out: &mut Vec<u8>, units: u128, millionths: u32) -> Result<(), AllocError>
     requires { millionths < 1000000 }
     ensures { OnOk result (out.new.items ≡ out.old.items ++ number_text (units * 1000000 + millionths)) }

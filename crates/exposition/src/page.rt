@@ -5,21 +5,21 @@ use crate::number::Number;
 use crate::series::Series;
 use base_text::Listed;
 
-/// A number, and the labels under which it stands.
+/// A number with its labels.
 #[derive(Drop)]
 pub struct Sample {
     pub labels: Listed<LabelPair>,
     pub number: Number,
 }
 
-/// What kind of metric a family is, with its samples.
+/// The samples of a family, which say what kind of metric it is.
 #[derive(Drop)]
 pub enum Samples {
     /// Numbers that never fall while the program runs.
     Counter(Listed<Sample>),
     /// Numbers that rise and fall.
     Gauge(Listed<Sample>),
-    /// Counts by bounds.
+    /// Counts of measured values, by bounds.
     Histogram(Listed<Series>),
 }
 
@@ -27,7 +27,7 @@ pub enum Samples {
 #[derive(Drop)]
 pub struct Family {
     pub name: Name,
-    /// What it means, in a line or several.
+    /// What it means, in one or several lines.
     pub help: Fixed,
     pub samples: Samples,
 }

@@ -7,10 +7,10 @@ use crate::number::Number;
 use base_text::Listed;
 use std::marker::Model;
 
-/// What was measured, and how often it came within each bound.
+/// How many measured values were within each bound: one series of a histogram.
 ///
-/// Contracts see its labels, its bounds and its sum in millionths, and its counts: for each bound how many came within it and not
-/// within the one before, and last how many came within none.
+/// Contracts see its labels, its bounds and its sum in millionths, and its counts: for each bound
+/// how many values are within it and above the one before, and last how many are above all bounds.
 #[derive(Drop)]
 pub struct Series {
     its_labels: Listed<LabelPair>,
@@ -31,7 +31,8 @@ impl Model for Series {
 }
 
 impl Series {
-    /// A series with these counts, one more than there are bounds. Bounds and sum are in microseconds, and shown in seconds.
+    /// Makes a series with these counts, one more than there are bounds; the bounds must rise.
+    /// Bounds are in microseconds, and are written in seconds.
     pub fn of(
         labels: Listed<LabelPair>,
         bounds: &'static [u64],

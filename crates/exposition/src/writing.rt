@@ -13,8 +13,8 @@ use crate::page::{Family, Sample, Samples};
 use crate::series::Series;
 use std::alloc::{AllocError, Global};
 
-/// The text of a page, of the format: the lines of its families, one after the other, each line with its LF. The only error is out
-/// of memory.
+/// Writes a page in the text format: the lines of its families, each line with its LF. The only
+/// error is out of memory.
 pub fn page_text(alloc: Global, page: &[Family]) -> Result<Vec<u8>, AllocError>
     ensures text { IfOk result (λ text. text.items ≡ page_text page.now) }
     ensures lawful { OnOk result (IsPage page.now) }
@@ -117,7 +117,7 @@ fn push_series(out: &mut Vec<u8>, name: &str, series: &Series) -> Result<(), All
     push_count(out, name, labels, count)
 }
 
-/// Appends a bucket for each bound, which counts what came within it.
+/// Appends a bucket for each bound, with the number of values within it.
 fn push_buckets(
     out: &mut Vec<u8>,
     name: &str,
@@ -138,7 +138,7 @@ fn push_buckets(
     Ok(())
 }
 
-/// All counts together, exactly.
+/// Returns the sum of the counts, which is exact.
 fn total(counts: &[u64]) -> u128
     ensures sum { result ≡ sum counts.now }
     ensures bound { result < 2 ^ 128 }

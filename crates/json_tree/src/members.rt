@@ -11,7 +11,7 @@ use crate::tree::Json;
 use std::alloc::{AllocError, Global};
 use std::collections::BTreeMap;
 
-/// Puts a member in its place, which is mostly the last.
+/// Puts a member in its place by name, usually the last. A member of the same name is replaced.
 pub(crate) fn put<'a>(
     members: &mut Vec<(&'a str, Json<'a>)>,
     name: &'a str,
@@ -29,7 +29,7 @@ pub(crate) fn put<'a>(
     put_in_place(members, name, value)
 }
 
-/// Puts a member in its place, wherever that is.
+/// Puts a member in its place by name, at any position.
 fn put_in_place<'a>(
     members: &mut Vec<(&'a str, Json<'a>)>,
     name: &'a str,
@@ -49,7 +49,7 @@ fn put_in_place<'a>(
     Ok(())
 }
 
-/// Whether the name is above those of the members.
+/// Returns whether the name is greater than the last member's; `true` if there is no member.
 pub(crate) fn is_last(members: &[(&str, Json<'_>)], name: &str) -> bool
     ensures { MatchOption (slice_get members.now (length members.now - 1)) (result ≡ true)
         (λ m. result ≡ is_lt (slice_cmp nat_cmp m.0.now name.now)) }
@@ -60,8 +60,8 @@ pub(crate) fn is_last(members: &[(&str, Json<'_>)], name: &str) -> bool
     }
 }
 
-/// How many names stand before those that are above this one. The search begins at the end, since
-/// names often rise.
+/// Returns the number of members before the first name that is greater than this one. The search
+/// starts at the end, since names are often in ascending order.
 fn place_of(members: &[(&str, Json<'_>)], name: &str) -> usize
     ensures within { result ≤ length members.now }
     ensures before { (d : Entry) → 0 < result
@@ -76,7 +76,7 @@ fn place_of(members: &[(&str, Json<'_>)], name: &str) -> usize
     place
 }
 
-/// The members and one more, as a map, where each goes to its place without a move of the others.
+/// Collects the members and one more into a map, where inserting doesn't move the others.
 pub(crate) fn to_map<'a>(
     alloc: Global,
     members: Vec<(&'a str, Json<'a>)>,
@@ -106,7 +106,7 @@ fn same_map<'a>(
     Ok(map)
 }
 
-/// The members of a map in their order.
+/// Collects the members of a map in their order.
 pub(crate) fn to_vec<'a>(
     alloc: Global,
     members: BTreeMap<&'a str, Json<'a>>,

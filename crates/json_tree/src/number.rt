@@ -6,8 +6,8 @@ ghost use Rattle.serde_json.specs.View.{number_view};
 use fast_float::Numeral;
 use serde_json::Number;
 
-/// An integer that fits 64 bits is one, and any other number is the nearest float, where that is
-/// finite.
+/// Reads a number's token: an integer if it fits 64 bits, else the nearest float. `None` if that
+/// float isn't finite.
 #[inline(always)]
 pub(crate) fn parse(text: &str) -> Option<Number>
     ensures { option_map number_view result ≡ number_of text.now }

@@ -14,13 +14,14 @@ use std::collections::BTreeMap;
 
 const MAX_DEPTH: usize = 127;
 
-/// With this many members a name out of order is no longer put in its place by moving those above
-/// it.
+/// From this many members on, a name out of order switches the object to a map, so that members
+/// aren't moved one by one.
 const FEW: usize = 16;
 
 impl<'a> Json<'a> {
-    /// Reads a JSON text (RFC 8259). Where texts are written with escapes, what they say goes into
-    /// the scratch.
+    /// Reads a JSON text (RFC 8259) of at most 127 nested arrays and objects. Strings with escapes
+    /// are decoded into `scratch`; the others are borrowed from `text`. Errors: `NotJson`, or out
+    /// of memory.
     pub fn read(
         alloc: Global,
         text: &'a str,
@@ -121,7 +122,7 @@ fn read_members<'a>(
     Ok(found)
 }
 
-/// The members that are left of an object, beside those that were found before.
+/// Reads the remaining members of an object and adds them to those read before.
 #[cycle(read)]
 #[inline(never)]
 fn read_many<'a>(

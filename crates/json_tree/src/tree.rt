@@ -7,8 +7,8 @@ ghost use Rattle.json_tree.specs.declared.tree.JsonError.TheVariants.{NotJson, O
 use serde_json::Number;
 use std::alloc::{AllocError, AllocFailed};
 
-/// A JSON value as a tree, whose texts are borrowed. The members of an object stand in byte order
-/// of their names, each name once; of several values of a name the last one counts.
+/// A JSON value (RFC 8259) as a tree that borrows its strings. The members of an object are in byte
+/// order of their names, each name once; if a text repeats a name, the last value counts.
 #[derive(Drop)]
 pub enum Json<'a> {
     Null,
@@ -19,17 +19,17 @@ pub enum Json<'a> {
     Object(Vec<(&'a str, Json<'a>)>),
 }
 
-/// Why a text wasn't read.
+/// The error of reading a JSON text.
 #[derive(Clone, Copy, Debug, PartialEq, Eq)]
 pub enum JsonError {
-    /// The text is no JSON, nests deeper than 127 arrays and objects, or has a number beyond the
-    /// range of a float.
+    /// The text isn't JSON (RFC 8259), nests more than 127 arrays and objects, or has a number
+    /// beyond the range of a float.
     NotJson,
     OutOfMemory,
 }
 
 impl<'a> Json<'a> {
-    /// The member of that name, where this is an object that has it.
+    /// Returns the member of that name. `None` if this isn't an object or has no such member.
     pub fn get(&self, name: &str) -> Option<&Json<'a>>
         ensures { option_map (λ j. view j.now) result ≡ found.get name.now (view self.now) }
     {
@@ -39,7 +39,7 @@ impl<'a> Json<'a> {
         }
     }
 
-    /// The text, where this is one.
+    /// Returns the text of a string. `None` if this isn't a string.
     pub fn as_str(&self) -> Option<&'a str>
         ensures { option_map (λ s. s.now) result ≡ found.as_str (view self.now) }
     {
@@ -49,7 +49,7 @@ impl<'a> Json<'a> {
         }
     }
 
-    /// The items, where this is an array.
+    /// Returns the items of an array. `None` if this isn't an array.
     pub fn as_array(&self) -> Option<&Vec<Json<'a>>>
         ensures { option_map (λ v. items_view v.now.items) result ≡ found.as_array (view self.now) }
     {

@@ -15,8 +15,8 @@ use serde_json::{Number, Value};
 use std::alloc::{AllocError, Global};
 
 impl<'a> Json<'a> {
-    /// The JSON text with no spaces. It begins with room for `capacity` bytes, and grows where that
-    /// is too little.
+    /// Writes the JSON text without spaces, into a string that starts with room for `capacity`
+    /// bytes and grows if needed. The value must hold no float. The only error is out of memory.
     pub fn to_text(&self, alloc: Global, capacity: usize) -> Result<String, AllocError>
         requires { has_float (view self.now) ≡ false }
         ensures { IfOk result (λ s. string_bytes s ≡ compact_text (view self.now)) }
@@ -29,7 +29,8 @@ impl<'a> Json<'a> {
         }
     }
 
-    /// The same value, with texts of its own.
+    /// Copies the value into one that owns its strings. It must hold no float, and its text without
+    /// spaces must read back as itself. The only error is out of memory.
     pub fn to_value(&self, alloc: Global) -> Result<Value, AllocError>
         requires whole { has_float (view self.now) ≡ false }
         requires reads_back { json_of (compact_text (view self.now)) ≡ Some (view self.now) }

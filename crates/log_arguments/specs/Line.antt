@@ -37,7 +37,7 @@ follow_line = command_line (codes "follow")
 abbrev pub join_line : App
 join_line = command_line (codes "join")
     (option_line (codes "listen") ∷ option_line (codes "nodes") ∷ option_line (codes "workers") ∷ option_line (codes "metrics")
-    ∷ flag_line (codes "rules") ∷ [])
+    ∷ option_line (codes "check-every") ∷ flag_line (codes "rules") ∷ [])
 
 abbrev pub tail_line : App
 tail_line = command_line (codes "tail") (option_line (codes "from") ∷ file_line true ∷ [])

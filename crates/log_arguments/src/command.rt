@@ -1,65 +1,70 @@
 // What a command line asks for.
 use std::net::SocketAddr;
 
-/// The version of the programs, as the file `VERSION` at the top has it.
+/// The version of the programs, the same as in the file `VERSION` at the top of the project.
 pub const VERSION: &str = "1.0.0";
 
-/// What the words of a command line ask for.
+/// What a command line asks for.
 #[derive(Clone, Copy, Debug, PartialEq, Eq)]
 pub enum LogCommand<'a> {
-    /// The log of a file is to be served.
+    /// Serve the log of a file.
     Keep {
         file: &'a str,
-        /// Where the first node listens; each other one at the port after that of the one before it.
+        /// Where the first node listens; each other node listens at the next port.
         listen: SocketAddr,
         /// How many nodes there are, 1 to 3.
         nodes: usize,
         /// How many workers each node has, 1 to 16.
         workers: u32,
-        /// Where metrics are shown, if they are.
+        /// Where metrics are served, if anywhere.
         metrics: Option<SocketAddr>,
-        /// No line is to say how far the reading of the log is.
+        /// Don't report how far the reading of the log is.
         quiet: bool,
-        /// A new log is to be made; else one has to be there.
+        /// Make a new log; without this the log must exist.
         is_new: bool,
     },
-    /// The lines of the input are to be served by nodes that only read; the values are as those of `Keep`.
+    /// Serve the lines of the input by nodes that only read. Values are as those of `Keep`.
     Follow {
         listen: SocketAddr,
         nodes: usize,
         workers: u32,
         metrics: Option<SocketAddr>,
     },
-    /// A log that other processes write too is to be served: the adapter at the standard input and output has it. The values are
-    /// as those of `Keep`, but for the workers, 2 to 16.
+    /// Serve a log that other processes write too, through the adapter at standard input and
+    /// output. Values are as those of `Keep`, but there are 2 to 16 workers.
     Join {
         listen: SocketAddr,
         nodes: usize,
         workers: u32,
         metrics: Option<SocketAddr>,
+        /// How many seconds may pass without a check of the store, 1 to 3,600; 0 for no check that nobody asks for.
+        check_every: u64,
     },
-    /// The number of the registry's rules is to be written.
+    /// Write the number of the registry's rules.
     Rules,
-    /// The lines of a kept log are to be written as they are acknowledged, from that offset on or all of them.
+    /// Write the lines of a kept log once they are acknowledged, from that offset on or all of
+    /// them.
     Tail {
         file: &'a str,
         from: Option<u64>,
     },
-    /// It is to be said what a log holds: that of a file, or of the input.
+    /// Write what a log holds, that of a file or of the input.
     Check {
         file: Option<&'a str>,
         quiet: bool,
     },
-    /// A log is to be compacted, that of a file or of the input: to a floor if there is one, and into a file or the output.
+    /// Compact a log, that of a file or of the input, to a floor (`to`) if there is one, into a
+    /// file or the output.
     Compact {
         file: Option<&'a str>,
         to: Option<u64>,
         output: Option<&'a str>,
         quiet: bool,
-        /// The line that says where the log ends is to stand behind it.
+        /// Write a line after the log that says where it ends.
         whole: bool,
     },
-    /// It is to be written what a log, that of a file or of the input, begins with that begins anew at an offset.
+    /// Write the start of a log that goes on at the offset `below`: a compaction of the records
+    /// below it, from a file or the input.
     Base {
         file: Option<&'a str>,
         below: u64,

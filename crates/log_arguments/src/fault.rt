@@ -9,32 +9,47 @@ use clap::{Command, Error};
 use std::alloc::{AllocError, Global};
 use std::net::SocketAddr;
 
-/// Why a command line is refused whose words `clap` takes. It is shown as one line.
+/// Where a value stands. Written as a command line or an environment has it.
+#[derive(Clone, Copy, Debug, PartialEq, Eq, thiserror::Error)]
+pub(crate) enum Origin {
+    /// Behind the option of that name.
+    #[error("--{0}")]
+    Option(&'static str),
+    /// In the variable `REGISTRY_` with that ending.
+    #[error("REGISTRY_{0}")]
+    Variable(&'static str),
+}
+
+/// Why a command line is refused whose words `clap` takes. Written as one line.
 #[derive(Clone, Copy, Debug, PartialEq, Eq, thiserror::Error)]
 pub(crate) enum Fault<'a> {
-    #[error("--listen {0}: an address with a port, as 127.0.0.1:8081 or [::1]:8081")]
-    Address(&'a str),
+    #[error("{0} {1}: an address with a port, as 127.0.0.1:8081 or [::1]:8081")]
+    Address(Origin, &'a str),
     /// The first node would have no port, or the last one a port past 65535.
-    #[error("--listen {listen}: a port from 1 to {most} with --nodes {nodes}")]
+    #[error("{origin} {listen}: a port from 1 to {most} with --nodes {nodes}")]
     Port {
+        origin: Origin,
         listen: SocketAddr,
         nodes: u64,
         most: u64,
     },
-    #[error("--{option} {text}: a number from {least} to {most}")]
+    #[error("{origin} {text}: a number from {least} to {most}")]
     Number {
-        option: &'static str,
+        origin: Origin,
         text: &'a str,
         least: u64,
         most: u64,
     },
+    /// The variable `REGISTRY_` with that ending sets a flag.
+    #[error("REGISTRY_{0} {1}: true or false")]
+    Switch(&'static str, &'a str),
     #[error("--{option} {text}: an offset from 0 to 9223372036854775807")]
     Offset {
         option: &'static str,
         text: &'a str,
     },
-    #[error("--metrics {0}: an address with a port, as 127.0.0.1:9081 or [::1]:9081")]
-    Metrics(&'a str),
+    #[error("{0} {1}: an address with a port, as 127.0.0.1:9081 or [::1]:9081")]
+    Metrics(Origin, &'a str),
     /// There is no such command line: `clap` takes none without a file that is wanted.
     #[error("a FILE is wanted")]
     File,
@@ -46,7 +61,8 @@ pub(crate) enum Fault<'a> {
     Command,
 }
 
-/// The text of a fault, with the usage of the command of that name.
+/// Makes the error of a fault, with the usage of the command of that name. Fails if memory is
+/// refused.
 pub(crate) fn refusal(alloc: Global, name: &str, fault: Fault<'_>) -> Result<Error, AllocError>
     ensures { IfOk result (λ error. kind_of error ≡ ValueValidation) }
 {
@@ -55,7 +71,7 @@ pub(crate) fn refusal(alloc: Global, name: &str, fault: Fault<'_>) -> Result<Err
     command.error(ErrorKind::ValueValidation, text.as_str())
 }
 
-/// The command of that name which has options with values, with the name that usage has of it.
+/// Returns the command of that name, one that has options with values, as its usage names it.
 fn command_named<'a>(alloc: Global, name: &str) -> Result<Command<'a>, AllocError> {
     if name == "keep" {
         keep(alloc)?.bin_name("registrylog keep")

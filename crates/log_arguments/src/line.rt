@@ -6,7 +6,7 @@ use crate::command::VERSION;
 use clap::{Arg, ArgAction, Command};
 use std::alloc::{AllocError, Global};
 
-/// The program with all its commands.
+/// Declares the program with all its commands.
 pub(crate) fn program<'a>(alloc: Global) -> Result<Command<'a>, AllocError>
     ensures { IfOk result (HasLine program_line) }
 {
@@ -28,7 +28,7 @@ pub(crate) fn program<'a>(alloc: Global) -> Result<Command<'a>, AllocError>
         .subcommand(basing)
 }
 
-/// The program without its commands.
+/// Declares the program without its commands.
 fn bare_program<'a>(alloc: Global) -> Result<Command<'a>, AllocError>
     ensures { IfOk result (HasLine bare_program) }
 {
@@ -52,6 +52,8 @@ pub(crate) fn keep<'a>(alloc: Global) -> Result<Command<'a>, AllocError>
         .about("Serves a registry over HTTP whose log is kept in a file")
         .after_help(
             "A new log is made once: registrylog keep --new ~/registry.log\n\n\
+            The environment sets options too: REGISTRY_LISTEN, REGISTRY_NODES, REGISTRY_WORKERS, REGISTRY_METRICS, \
+            and as true or false REGISTRY_QUIET and REGISTRY_NEW.\n\n\
             Example: registrylog keep --listen 0.0.0.0:9000 ~/registry.log",
         )
         .arg(new_log(alloc))?
@@ -70,7 +72,8 @@ pub(crate) fn follow<'a>(alloc: Global) -> Result<Command<'a>, AllocError>
     Command::new(alloc, "follow")
         .about("Serves the log whose lines come on standard input, to readers alone")
         .after_help(
-            "Example: registrylog tail ~/registry.log | registrylog follow --listen 0.0.0.0:9100",
+            "The environment sets options too: REGISTRY_LISTEN, REGISTRY_NODES, REGISTRY_WORKERS, REGISTRY_METRICS.\n\n\
+            Example: registrylog tail ~/registry.log | registrylog follow --listen 0.0.0.0:9100",
         )
         .arg(listen(alloc))?
         .arg(nodes(alloc))?
@@ -92,12 +95,14 @@ pub(crate) fn join<'a>(alloc: Global) -> Result<Command<'a>, AllocError>
         )
         .after_help(
             "An adapter starts it, and keeps the log: its messages come on standard input, and requests go to standard output.\n\n\
+            The environment sets options too: REGISTRY_LISTEN, REGISTRY_NODES, REGISTRY_WORKERS, REGISTRY_METRICS.\n\n\
             Example of an adapter's command: registrylog join --listen 0.0.0.0:9000",
         )
         .arg(listen(alloc))?
         .arg(nodes(alloc))?
         .arg(workers)?
         .arg(metrics(alloc))?
+        .arg(check_every(alloc))?
         .arg(rules)
 }
 
@@ -172,7 +177,7 @@ pub(crate) fn base<'a>(alloc: Global) -> Result<Command<'a>, AllocError>
 
 const INPUT: &str = "The log [default: standard input, as for -]";
 
-/// An option `--NAME VALUE`.
+/// Declares an option `--NAME VALUE`.
 fn option<'a>(alloc: Global, name: &'a str, value: &'a str) -> Arg<'a>
     ensures { HasRule (option_line name.now) result }
 {
@@ -184,6 +189,14 @@ fn listen<'a>(alloc: Global) -> Arg<'a>
 {
     option(alloc, "listen", "ADDRESS:PORT").help(
         "Where the first node listens, others at the ports after it [default: 127.0.0.1:8081]",
+    )
+}
+
+fn check_every<'a>(alloc: Global) -> Arg<'a>
+    ensures { HasRule (option_line (codes "check-every")) result }
+{
+    option(alloc, "check-every", "S").help(
+        "Ask the store for news if it wasn't asked for so many seconds, 1 to 3600, or 0 for never [default: 5]",
     )
 }
 
@@ -227,14 +240,14 @@ fn new_log<'a>(alloc: Global) -> Arg<'a>
     flag(alloc, "new").help("Make the log, which isn't there yet; without this, it has to be there")
 }
 
-/// An option `--NAME` without a value.
+/// Declares an option `--NAME` without a value.
 fn flag<'a>(alloc: Global, name: &'a str) -> Arg<'a>
     ensures { HasRule (flag_line name.now) result }
 {
     Arg::new(alloc, name).long(name).action(ArgAction::SetTrue)
 }
 
-/// The file behind the options.
+/// Declares the file after the options.
 fn file<'a>(alloc: Global) -> Arg<'a>
     ensures { HasRule (file_line false) result }
 {

@@ -8,31 +8,45 @@ ghost use Rattle.log_arguments.specs.Values.{Finds};
 use crate::command::LogCommand;
 use crate::fault::{Fault, refusal};
 use crate::line::program;
-use crate::values::{Place, has_flag, metrics_in, offset_in, path_in, place_in, text_in};
+use crate::settings::Settings;
+use crate::values::{
+    CHECK_EVERY, Place, has_flag, metrics_in, number_in, offset_in, path_in, place_in, switch_in,
+    text_in,
+};
 use clap::{ArgMatches, Error};
 use std::alloc::Global;
 
-/// What the words ask for, of which the first is the program's name. The error says why they are no command line, or is
-/// the help or the version where they ask for that: print it by `Error::print`.
-pub fn read_arguments<'a>(alloc: Global, words: &'a [String]) -> Result<LogCommand<'a>, Error>
-    ensures asked { IfOk result (AskFor (map string_bytes words.now)) }
+/// Returns the command that the words ask for; the first word is the name of the program. What `set`
+/// has for an option counts if the words don't give it. The error says why they are no command line,
+/// or which value of an option or a setting is bad, or has the help or the version if they ask for
+/// that. Print it with `Error::print`.
+pub fn read_arguments<'a>(
+    alloc: Global,
+    words: &'a [String],
+    set: Settings<'a>,
+) -> Result<LogCommand<'a>, Error>
+    ensures asked { IfOk result (AskFor set.entry (map string_bytes words.now)) }
     ensures within { IfOk result HasOffsetInLimits }
     ensures taken { IfOk result (λ _. fault_of program_line (map string_bytes words.now) ≡ []) }
-    ensures refused { IfErr result (IsRefusalOf (map string_bytes words.now)) }
+    ensures refused { IfErr result (IsRefusalOf set.entry (map string_bytes words.now)) }
 {
     let line = program(alloc)?;
     match line.try_get_matches_from(words) {
-        Ok(found) => read_found(alloc, &found),
+        Ok(found) => read_found(alloc, &found, set),
         Err(error) => Err(error),
     }
 }
 
-/// What is asked for by matches.
-fn read_found<'a>(alloc: Global, found: &ArgMatches<'a>) -> Result<LogCommand<'a>, Error>
-    ensures asked { IfOk result (Asks (subcommand_rows_of found.now)) }
-    ensures refused { IfErr result (IsMisuse (subcommand_rows_of found.now)) }
+/// Returns the command that the matches ask for, or an error with the usage.
+fn read_found<'a>(
+    alloc: Global,
+    found: &ArgMatches<'a>,
+    set: Settings<'a>,
+) -> Result<LogCommand<'a>, Error>
+    ensures asked { IfOk result (Asks set.entry (subcommand_rows_of found.now)) }
+    ensures refused { IfErr result (IsMisuse set.entry (subcommand_rows_of found.now)) }
 {
-    match asked_in(found) {
+    match asked_in(found, set) {
         Ok(command) => Ok(command),
         Err((name, fault)) => {
             let error = refusal(alloc, name, fault)?;
@@ -41,51 +55,68 @@ fn read_found<'a>(alloc: Global, found: &ArgMatches<'a>) -> Result<LogCommand<'a
     }
 }
 
-/// What is asked for by matches; a fault comes with the name of the command.
-fn asked_in<'a>(found: &ArgMatches<'a>) -> Result<LogCommand<'a>, (&'a str, Fault<'a>)>
-    ensures { Finds (Asks (subcommand_rows_of found.now)) result }
+/// Returns the command that the matches ask for, or the name of the command and its fault.
+fn asked_in<'a>(
+    found: &ArgMatches<'a>,
+    set: Settings<'a>,
+) -> Result<LogCommand<'a>, (&'a str, Fault<'a>)>
+    ensures { Finds (Asks set.entry (subcommand_rows_of found.now)) result }
 {
     let Some((name, values)) = found.subcommand() else {
         return Err(("", Fault::Command));
     };
-    match command_in(name, values) {
+    let given = Given { found: values, set };
+    match command_in(name, given) {
         Ok(command) => Ok(command),
         Err(fault) => Err((name, fault)),
     }
 }
 
-/// What the command of that name asks for, with the values that were found for it.
-fn command_in<'a>(name: &str, found: &ArgMatches<'a>) -> Result<LogCommand<'a>, Fault<'a>>
-    ensures { Finds (IsAskedBy (name.now, rows_of (found_of found.now))) result }
+/// What is given to a command: the values that were found for it, and the settings.
+#[derive(Clone, Copy)]
+struct Given<'m, 'a> {
+    found: &'m ArgMatches<'a>,
+    set: Settings<'a>,
+}
+
+/// Returns what the command of that name asks for, with the values found for it.
+fn command_in<'a>(name: &str, given: Given<'_, 'a>) -> Result<LogCommand<'a>, Fault<'a>>
+    ensures { Finds (IsAskedBy given.entry.set (name.now, rows_of (found_of given.entry.found.now))) result }
 {
     if name == "keep" {
-        keep_in(found)
+        keep_in(given)
     } else if name == "follow" {
-        follow_in(found)
+        follow_in(given)
     } else if name == "join" {
-        join_in(found)
+        join_in(given)
     } else if name == "tail" {
-        tail_in(found)
+        tail_in(given)
     } else if name == "check" {
-        Ok(check_in(found))
+        Ok(check_in(given))
     } else if name == "compact" {
-        compact_in(found)
+        compact_in(given)
     } else if name == "base" {
-        base_in(found)
+        base_in(given)
     } else {
         Err(Fault::Command)
     }
 }
 
-fn keep_in<'a>(found: &ArgMatches<'a>) -> Result<LogCommand<'a>, Fault<'a>>
-    ensures { Finds (IsAskedBy (codes "keep", rows_of (found_of found.now))) result }
+fn keep_in<'a>(given: Given<'_, 'a>) -> Result<LogCommand<'a>, Fault<'a>>
+    ensures { Finds (IsAskedBy given.entry.set (codes "keep", rows_of (found_of given.entry.found.now))) result }
 {
-    let Some(file) = text_in(found, "file") else {
+    let Some(file) = text_in(given.found, "file") else {
         return Err(Fault::File);
     };
-    let quiet = has_flag(found, "quiet");
-    let is_new = has_flag(found, "new");
-    let place = match place_in(found, 1) {
+    let quiet = match switch_in(given.found, given.set.quiet, "quiet", "QUIET") {
+        Ok(quiet) => quiet,
+        Err(fault) => return Err(fault),
+    };
+    let is_new = match switch_in(given.found, given.set.new, "new", "NEW") {
+        Ok(is_new) => is_new,
+        Err(fault) => return Err(fault),
+    };
+    let place = match place_in(given.found, given.set, 1) {
         Ok(place) => place,
         Err(fault) => return Err(fault),
     };
@@ -94,7 +125,7 @@ fn keep_in<'a>(found: &ArgMatches<'a>) -> Result<LogCommand<'a>, Fault<'a>>
         nodes,
         workers,
     } = place;
-    match metrics_in(found) {
+    match metrics_in(given.found, given.set.metrics) {
         Ok(metrics) => Ok(LogCommand::Keep {
             file,
             listen,
@@ -108,10 +139,10 @@ fn keep_in<'a>(found: &ArgMatches<'a>) -> Result<LogCommand<'a>, Fault<'a>>
     }
 }
 
-fn follow_in<'a>(found: &ArgMatches<'a>) -> Result<LogCommand<'a>, Fault<'a>>
-    ensures { Finds (IsAskedBy (codes "follow", rows_of (found_of found.now))) result }
+fn follow_in<'a>(given: Given<'_, 'a>) -> Result<LogCommand<'a>, Fault<'a>>
+    ensures { Finds (IsAskedBy given.entry.set (codes "follow", rows_of (found_of given.entry.found.now))) result }
 {
-    let place = match place_in(found, 1) {
+    let place = match place_in(given.found, given.set, 1) {
         Ok(place) => place,
         Err(fault) => return Err(fault),
     };
@@ -120,7 +151,7 @@ fn follow_in<'a>(found: &ArgMatches<'a>) -> Result<LogCommand<'a>, Fault<'a>>
         nodes,
         workers,
     } = place;
-    match metrics_in(found) {
+    match metrics_in(given.found, given.set.metrics) {
         Ok(metrics) => Ok(LogCommand::Follow {
             listen,
             nodes,
@@ -131,13 +162,13 @@ fn follow_in<'a>(found: &ArgMatches<'a>) -> Result<LogCommand<'a>, Fault<'a>>
     }
 }
 
-fn join_in<'a>(found: &ArgMatches<'a>) -> Result<LogCommand<'a>, Fault<'a>>
-    ensures { Finds (IsAskedBy (codes "join", rows_of (found_of found.now))) result }
+fn join_in<'a>(given: Given<'_, 'a>) -> Result<LogCommand<'a>, Fault<'a>>
+    ensures { Finds (IsAskedBy given.entry.set (codes "join", rows_of (found_of given.entry.found.now))) result }
 {
-    if has_flag(found, "rules") {
+    if has_flag(given.found, "rules") {
         return Ok(LogCommand::Rules);
     }
-    let place = match place_in(found, 2) {
+    let place = match place_in(given.found, given.set, 2) {
         Ok(place) => place,
         Err(fault) => return Err(fault),
     };
@@ -146,45 +177,50 @@ fn join_in<'a>(found: &ArgMatches<'a>) -> Result<LogCommand<'a>, Fault<'a>>
         nodes,
         workers,
     } = place;
-    match metrics_in(found) {
-        Ok(metrics) => Ok(LogCommand::Join {
+    let metrics = match metrics_in(given.found, given.set.metrics) {
+        Ok(metrics) => metrics,
+        Err(fault) => return Err(fault),
+    };
+    match number_in(given.found, given.set.check_every, CHECK_EVERY) {
+        Ok(check_every) => Ok(LogCommand::Join {
             listen,
             nodes,
             workers,
             metrics,
+            check_every,
         }),
         Err(fault) => Err(fault),
     }
 }
 
-fn tail_in<'a>(found: &ArgMatches<'a>) -> Result<LogCommand<'a>, Fault<'a>>
-    ensures { Finds (IsAskedBy (codes "tail", rows_of (found_of found.now))) result }
+fn tail_in<'a>(given: Given<'_, 'a>) -> Result<LogCommand<'a>, Fault<'a>>
+    ensures { Finds (IsAskedBy given.entry.set (codes "tail", rows_of (found_of given.entry.found.now))) result }
 {
-    let Some(file) = text_in(found, "file") else {
+    let Some(file) = text_in(given.found, "file") else {
         return Err(Fault::File);
     };
-    match offset_in(found, "from") {
+    match offset_in(given.found, "from") {
         Ok(from) => Ok(LogCommand::Tail { file, from }),
         Err(fault) => Err(fault),
     }
 }
 
-fn check_in<'a>(found: &ArgMatches<'a>) -> LogCommand<'a>
-    ensures { IsAskedBy (codes "check", rows_of (found_of found.now)) result }
+fn check_in<'a>(given: Given<'_, 'a>) -> LogCommand<'a>
+    ensures { IsAskedBy given.entry.set (codes "check", rows_of (found_of given.entry.found.now)) result }
 {
-    let file = path_in(found, "file");
-    let quiet = has_flag(found, "quiet");
+    let file = path_in(given.found, "file");
+    let quiet = has_flag(given.found, "quiet");
     LogCommand::Check { file, quiet }
 }
 
-fn compact_in<'a>(found: &ArgMatches<'a>) -> Result<LogCommand<'a>, Fault<'a>>
-    ensures { Finds (IsAskedBy (codes "compact", rows_of (found_of found.now))) result }
+fn compact_in<'a>(given: Given<'_, 'a>) -> Result<LogCommand<'a>, Fault<'a>>
+    ensures { Finds (IsAskedBy given.entry.set (codes "compact", rows_of (found_of given.entry.found.now))) result }
 {
-    let file = path_in(found, "file");
-    let output = path_in(found, "output");
-    let quiet = has_flag(found, "quiet");
-    let whole = has_flag(found, "whole");
-    match offset_in(found, "to") {
+    let file = path_in(given.found, "file");
+    let output = path_in(given.found, "output");
+    let quiet = has_flag(given.found, "quiet");
+    let whole = has_flag(given.found, "whole");
+    match offset_in(given.found, "to") {
         Ok(to) => Ok(LogCommand::Compact {
             file,
             to,
@@ -196,13 +232,13 @@ fn compact_in<'a>(found: &ArgMatches<'a>) -> Result<LogCommand<'a>, Fault<'a>>
     }
 }
 
-fn base_in<'a>(found: &ArgMatches<'a>) -> Result<LogCommand<'a>, Fault<'a>>
-    ensures { Finds (IsAskedBy (codes "base", rows_of (found_of found.now))) result }
+fn base_in<'a>(given: Given<'_, 'a>) -> Result<LogCommand<'a>, Fault<'a>>
+    ensures { Finds (IsAskedBy given.entry.set (codes "base", rows_of (found_of given.entry.found.now))) result }
 {
-    let file = path_in(found, "file");
-    let quiet = has_flag(found, "quiet");
-    let whole = has_flag(found, "whole");
-    match offset_in(found, "below") {
+    let file = path_in(given.found, "file");
+    let quiet = has_flag(given.found, "quiet");
+    let whole = has_flag(given.found, "whole");
+    match offset_in(given.found, "below") {
         Ok(Some(below)) => Ok(LogCommand::Base {
             file,
             below,

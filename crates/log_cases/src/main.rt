@@ -6,7 +6,8 @@
 //! LF and CR, `|` for CR LF, `^` and two hexadecimal digits for any byte, and `<3*text>` for a text three times; a `-` is wanted where no
 //! bytes are to come. The ending of a file's name says what its lines ask:
 //!
-//! - `.lines`: a command line, and what it asks for or the first line of why it is refused; behind `whole `, all of that.
+//! - `.lines`: a command line, and what it asks for or the first line of why it is refused; behind `whole `, all of that. Variables of the
+//!   environment stand in front of it, with a `; `; a `~` in one isn't text.
 //! - `.messages`: `say TEXT`: an adapter's messages, given in pieces of each size, with a star at a foreign line, and how they end.
 //!   `base TEXT`: the same behind a base, after the base's next offset. `unended TEXT`: how two looks at a text end that goes on.
 //!   `request FIRST COUNT`: what asks for so many records of no operation.

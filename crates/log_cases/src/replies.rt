@@ -72,7 +72,10 @@ impl Form for Replies {
             "ask" => self.adapter.ask(false, moment_in(rest)?),
             "hear" => self.hear(rest)?,
             "told" => self.adapter.hear_batch(),
-            "join" => self.adapter.join(moment_in(rest)?),
+            "join" => {
+                let (second, every) = cut(rest);
+                self.adapter.join(moment_in(second)?, moment_in(every)?);
+            }
             "batches" => return Ok(self.batch_counts(alloc)?),
             "checks" => return Ok(self.check_counts(alloc)?),
             "last" => return Ok(format!(in alloc; "{}", self.adapter.last.value())?),

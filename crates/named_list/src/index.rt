@@ -9,8 +9,8 @@ use crate::slots::hash_of;
 use base_text::Text;
 use std::alloc::{AllocError, Global};
 
-/// Each place with its name's hash, in the order of the hashes, and of the names where those are
-/// equal, or None where two items have one name. The only error is out of memory.
+/// Returns each item's hash and position, sorted by hash and then by name. `None` if two items have
+/// the same name. The only error is out of memory.
 pub(crate) fn index_of<T: Named>(
     alloc: Global,
     items: &[T],
@@ -23,7 +23,7 @@ pub(crate) fn index_of<T: Named>(
     places_in_order(alloc, entries)
 }
 
-/// Each item's name, with its hash and its place.
+/// Returns each item's hash, name and position, in the order of the items.
 fn entries_of<T: Named>(alloc: Global, items: &[T]) -> Result<Vec<(u32, &Text, usize)>, AllocError>
     ensures names { IfOk result (λ entries. names_of entries.items ≡ map T.name items.now) }
     ensures placed { IfOk result (λ entries. All (IsPlaced (map T.name items.now)) entries.items) }
@@ -38,7 +38,8 @@ fn entries_of<T: Named>(alloc: Global, items: &[T]) -> Result<Vec<(u32, &Text, u
     Ok(entries)
 }
 
-/// The hashes and places in that order, or None where two entries have one name.
+/// Sorts the entries and returns their hashes and positions. `None` if two entries have the same
+/// name.
 fn places_in_order(
     alloc: Global,
     mut entries: Vec<(u32, &Text, usize)>,
@@ -55,14 +56,14 @@ fn places_in_order(
     Ok(Some(places_of(alloc, entries.as_slice())?))
 }
 
-/// Whether each name differs from the next.
+/// Returns whether each entry's name differs from the next one's.
 fn do_differ(entries: &[(u32, &Text, usize)]) -> bool
     ensures { IsAllAdjacentAnswer (λ x y b. b ≡ are_apart x y) entries.now result }
 {
     entries.is_sorted_by(|one, next| one.0 != next.0 || one.1 != next.1)
 }
 
-/// The hashes and places of the entries.
+/// Returns the hashes and positions of the entries.
 fn places_of(
     alloc: Global,
     entries: &[(u32, &Text, usize)],

@@ -10,16 +10,18 @@ use base_text::Text;
 use std::alloc::{AllocError, Global};
 use std::marker::Model;
 
-/// Up to how many items a name is looked for one by one.
+/// The most items of a list that is searched one by one, without an index.
 const SHORT: usize = 8;
 
-/// A list of items with distinct names. Contracts see the list of the items.
+/// A list of items with distinct names, found by name. Contracts see the list of the items, in the
+/// order given.
 #[derive(Debug, Drop)]
 pub struct NamedList<T: Named> {
     items: Vec<T>,
-    /// The names' hashes with the places of the items, in their order. A short list has none.
+    /// The hash of each name with the position of its item, sorted by hash. Empty if the list is
+    /// short.
     by_hash: Vec<(u32, usize)>,
-    /// Where the place of a name is looked for first. A short list has none.
+    /// A hash table of positions, which a lookup tries first. Empty if the list is short.
     slots: Vec<u32>,
 }
 
@@ -38,8 +40,8 @@ impl<T: Named> Model for NamedList<T> {
 }
 
 impl<T: Named + Drop> NamedList<T> {
-    /// The list of the items, or None where two of them have one name. The only error is out of
-    /// memory.
+    /// Makes a list of the items, in this order. `None` if two of them have the same name. The only
+    /// error is out of memory.
     pub fn of(alloc: Global, items: Vec<T>) -> Result<Option<NamedList<T>>, AllocError>
         ensures { IfOk result (λ found. found
             ≡ (if all_distinct bytes_eq (map T.name items.items) then Some items.items else None)) }
@@ -67,7 +69,7 @@ impl<T: Named + Drop> NamedList<T> {
 }
 
 impl<T: Named> NamedList<T> {
-    /// The items, in their order.
+    /// Returns the items, in their order. Their names are distinct.
     pub fn as_slice(&self) -> &[T]
         ensures items { result.now ≡ self.now }
         ensures distinct { all_distinct bytes_eq (map T.name self.now) ≡ true }
@@ -75,7 +77,8 @@ impl<T: Named> NamedList<T> {
         &self.items
     }
 
-    /// Where the item of that name is in the list. Takes as long as [`NamedList::get`].
+    /// Returns the position of the item of that name, counted from 0. `None` if there is none.
+    /// Takes as long as [`NamedList::get`].
     pub fn place(&self, name: &Text) -> Option<usize>
         ensures { result ≡ position (λ item. bytes_eq (T.name item) name.now) self.now }
     {
@@ -93,15 +96,15 @@ impl<T: Named> NamedList<T> {
         }
     }
 
-    /// The item of that name. Takes no memory, and mostly as long for a long list as for a short one:
-    /// one in about ten names takes time that grows with the logarithm of the length.
+    /// Returns the item of that name. `None` if there is none. Allocates nothing. Most names take
+    /// constant time; about one in ten takes time logarithmic in the length.
     pub fn get(&self, name: &Text) -> Option<&T>
         ensures { option_copied result ≡ find (λ item. bytes_eq (T.name item) name.now) self.now }
     {
         self.find(name.as_str())
     }
 
-    /// The same as [`NamedList::get`], for a name that is no [`Text`].
+    /// Returns the item of that name, like [`NamedList::get`], for a name that isn't a [`Text`].
     pub fn find(&self, name: &str) -> Option<&T>
         ensures { option_copied result ≡ find (λ item. bytes_eq (T.name item) name.now) self.now }
     {

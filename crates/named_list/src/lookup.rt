@@ -9,7 +9,7 @@ use crate::Named;
 use base_text::Text;
 use std::cmp::Ordering;
 
-/// Whether no two of the items have one name, each compared with each.
+/// Returns whether the items' names are distinct, by comparing each pair.
 pub(crate) fn are_distinct<T: Named>(items: &[T]) -> bool
     ensures { result ≡ all_distinct bytes_eq (map T.name items.now) }
 {
@@ -25,21 +25,22 @@ fn has_name<T: Named>(items: &[T], name: &Text) -> bool
     items.iter().any(|item| name == item.name())
 }
 
-/// The item at a place.
+/// Returns the item at a position.
 pub(crate) fn item_at<T>(items: &[T], place: usize) -> Option<&T>
     ensures { option_copied result ≡ slice_get items.now place }
 {
     items.get(place)
 }
 
-/// Where the item of that name is, looked for one by one.
+/// Returns the position of the item of that name, by comparing one by one.
 pub(crate) fn place_in<T: Named>(items: &[T], name: &str) -> Option<usize>
     ensures { result ≡ position (λ item. bytes_eq (T.name item) name.now) items.now }
 {
     items.iter().position(|item| item.name().as_str() == name)
 }
 
-/// Where the item of that name is, looked for in the order of the names' hashes.
+/// Returns the position of the item of that name, by binary search in the index. `hash` is the
+/// name's hash.
 pub(crate) fn place_in_order<T: Named>(
     items: &[T],
     by_hash: &[(u32, usize)],
@@ -65,7 +66,7 @@ pub(crate) fn place_in_order<T: Named>(
     None
 }
 
-/// How the name of the item of that hash and that place compares with a name.
+/// Compares an index entry with a hash and name: by hash, then by name.
 fn compare_at<T: Named>(items: &[T], entry: (u32, usize), hash: u32, name: &str) -> Ordering
     requires within { entry.1 < length items.now }
     requires known { entry.0 ≡ hash_from 0 (slice_index_or (map T.name items.now) entry.1 []) }

@@ -1,13 +1,13 @@
-// What has a name.
+// Items that have a name.
 ghost use Rattle.std.specs.Prelude.{◌≡◌, List, ℕ};
 
 use base_text::Text;
 
-/// What has a name.
+/// An item that has a name. Contracts see the name as bytes.
 pub trait Named {
     ghost name: { Self → List ℕ };
 
-    /// Its name.
+    /// Returns the item's name.
     fn name(&self) -> &Text
         ensures { result.now ≡ name self.now };
 }

@@ -1,4 +1,4 @@
-// Slots, in which the place of a name is looked for first.
+// Slots: a hash table of positions, which a lookup tries first.
 ghost use Rattle.std.specs.Prelude.{◌≡◌, ◌<◌, ◌%◌, true, IfOk, IfSome, Some, map, position, length, bytes_eq, slice_index_or};
 ghost use Rattle.std.specs.List.{All};
 ghost use Rattle.named_list.specs.Distinct.{all_distinct};
@@ -9,11 +9,11 @@ use crate::Named;
 use crate::lookup::place_in_order;
 use std::alloc::{AllocError, Global};
 
-/// How many slots there are for an item: the more, the fewer items share one.
+/// The number of slots per item. The more there are, the fewer items share one.
 const SLOTS_FOR_ITEM: usize = 6;
 
-/// Slots for the names of those hashes: in the slot of each is the place of an item of that slot,
-/// counted from 1, and in the others 0. The only error is out of memory.
+/// Makes the slots for these hashes. A slot has the position, counted from 1, of one of the items
+/// that hash to it, or 0 if none does. The only error is out of memory.
 pub(crate) fn slots_of(alloc: Global, by_hash: &[(u32, usize)]) -> Result<Vec<u32>, AllocError>
     ensures { IfOk result (λ slots. All (λ e. 0 < slice_index_or slots.items (e.0 % length slots.items) 0) by_hash.now) }
 {
@@ -29,14 +29,14 @@ pub(crate) fn slots_of(alloc: Global, by_hash: &[(u32, usize)]) -> Result<Vec<u3
     Ok(slots)
 }
 
-/// What is in a slot for that place.
+/// Returns the slot's value for a position: the position plus one, at most `u32::MAX`.
 fn slot_at(place: usize) -> u32
     ensures { 0 < result }
 {
     u32::try_from(place.saturating_add(1)).unwrap_or(u32::MAX)
 }
 
-/// The slot of a name of that hash among so many.
+/// Returns the slot of a hash, among `count` slots.
 fn slot_of(hash: u32, count: usize) -> usize
     requires { 0 < count }
     ensures is { result ≡ hash % count }
@@ -45,7 +45,7 @@ fn slot_of(hash: u32, count: usize) -> usize
     hash as usize % count
 }
 
-/// The hash of a name.
+/// Returns the hash of a name. The hash has no secret key.
 pub(crate) fn hash_of(name: &[u8]) -> u32
     ensures { result ≡ spec.hash_from 0 name.now }
 {
@@ -58,8 +58,8 @@ pub(crate) fn hash_of(name: &[u8]) -> u32
     hash
 }
 
-/// Where the item of that name is, looked for in the slot of the name, and in the order of the
-/// hashes where that slot has the place of another.
+/// Returns the position of the item of that name. Looks at the name's slot first; if another item
+/// is there, searches the index.
 pub(crate) fn place_by_slot<T: Named>(
     items: &[T],
     slots: &[u32],
@@ -84,7 +84,7 @@ pub(crate) fn place_by_slot<T: Named>(
     place_in_order(items, by_hash, hash, name)
 }
 
-/// Whether the item at a place has that name.
+/// Returns whether the item at a position has that name.
 fn is_named<T: Named>(items: &[T], place: usize, name: &str) -> bool
     requires distinct { all_distinct bytes_eq (map T.name items.now) ≡ true }
     ensures { result ≡ true → position (λ item. bytes_eq (T.name item) name.now) items.now ≡ Some place }

@@ -6,8 +6,8 @@ ghost use Rattle.packed_trees.specs.Copies.{ClonesAreEqual, ClonesTie};
 use std::alloc::{AllocError, Global};
 use std::collections::BTreeMap;
 
-/// A copy of the map, in a tree whose nodes are full. The only errors are out of memory and what a clone
-/// fails with.
+/// Copies a map into a tree whose nodes are full. Fails if memory is refused or a clone of a key or
+/// value fails.
 pub fn copy_map<K: Ord + Clone + Drop, V: Clone + Drop>(
     alloc: Global,
     map: &BTreeMap<K, V>,

@@ -6,8 +6,8 @@ ghost use Rattle.packed_trees.specs.Copies.{ClonesTie};
 use std::alloc::{AllocError, Global};
 use std::collections::BTreeSet;
 
-/// A copy of the set, in a tree whose nodes are full. The only errors are out of memory and what a clone
-/// fails with.
+/// Copies a set into a tree whose nodes are full. Fails if memory is refused or a clone of a key
+/// fails.
 pub fn copy_set<K: Ord + Clone + Drop>(
     alloc: Global,
     set: &BTreeSet<K>,

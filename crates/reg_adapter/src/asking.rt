@@ -10,8 +10,8 @@ ghost use Rattle.reg_adapter.specs.Requests.{request_text};
 use reg_records::{Record, WriteLineError, write_line};
 use std::alloc::Global;
 
-/// The bytes that ask for these records to stand next in the log: their lines, and an empty one. Without records they ask for a check. A
-/// record whose line would be too long is refused, and memory may be.
+/// Writes the request to append these records next in the log: their lines, and an empty one.
+/// Without records it is a check. Errors: a record's line would be too long, or memory was refused.
 pub fn request(alloc: Global, batch: &[Record]) -> Result<Vec<u8>, WriteLineError>
     requires { All HasLine batch.now }
     ensures text { IfOk result (λ text. text.items ≡ request_text batch.now) }

@@ -4,25 +4,26 @@ use std::alloc::AllocError;
 use std::error::Error;
 use std::fmt;
 
-/// What is wrong with a line of what an adapter says.
+/// A fault of a line that an adapter sent.
 #[derive(Clone, Copy, Debug, PartialEq, Eq)]
 pub enum MessageFault {
-    /// Between two messages: it is none of the words that a message begins with.
+    /// Between two messages: the line is none of the words that a message begins with.
     NoMessage,
-    /// Within a batch: it is no line of a log. Anywhere: it is too long, or the input ended before its LF.
+    /// Within a batch: the line is no line of a log. Anywhere: it is too long, or the input ended
+    /// before its LF.
     Line(LineError),
-    /// The empty line ends a batch that has no lines.
+    /// An empty line ends a batch that has no lines.
     EmptyBatch,
-    /// Its offset isn't the one behind that of the line before it in the batch.
+    /// The line's offset doesn't follow that of the line before it in the batch.
     Gap,
     /// The input ended within a batch.
     Unended,
 }
 
-/// Why messages aren't read any more.
+/// An error of reading an adapter's messages.
 #[derive(Clone, Copy, Debug, PartialEq, Eq)]
 pub enum MessageError {
-    /// The first line that has a fault; lines count from 1 behind the base, up to `u64::MAX`.
+    /// The first line that has a fault. Lines count from 1 behind the base, up to `u64::MAX`.
     Fault { line: u64, fault: MessageFault },
     OutOfMemory,
 }
@@ -31,7 +32,7 @@ impl MessageFault {
     ghost use Rattle.std.specs.Prelude.{◌≡◌};
     ghost use Rattle.reg_adapter.specs.Errors.{message_fault_name};
 
-    /// Its name, as it is reported.
+    /// Returns its name, as reports show it.
     pub fn name(self) -> &'static str
         ensures { result.now ≡ message_fault_name self }
     {

@@ -1,14 +1,16 @@
 // What the messages of a text are. What is proved here costs nothing at run time.
 ghost use Rattle.reg_adapter.specs.Laws.{FaultsAreFirst, MessagesAreRead, MessagesHaveTexts, TextsAreMessages, TextsTellOnce, TranscriptsAreUnique};
 
-/// A text tells the same messages, whatever the pieces that it came in, and its first fault is the same: nothing is given behind it.
+/// States that a text has the same messages in whatever pieces it comes, and the same first fault,
+/// behind which nothing is given. Costs nothing at run time.
 pub fn pieces_tell_the_same()
     ensures messages { TextsTellOnce }
     ensures faults { FaultsAreFirst }
 {}
 
-/// Messages have a text, it tells them, and no other text does that ends between two messages but those that are written so. What an adapter
-/// says has one base, and one list of messages.
+/// States that messages have a text, that it is read as those messages, that only texts that are
+/// written so are, and that what an adapter says has one base and one list of messages. Costs
+/// nothing at run time.
 pub fn messages_are_texts()
     ensures exist { MessagesHaveTexts }
     ensures read { MessagesAreRead }

@@ -26,7 +26,8 @@ pub(crate) enum Part {
     End,
 }
 
-/// What a line with its LF says between two messages; so many lines stand before it.
+/// Returns what a line (with its LF) says between two messages. `before` is the number of lines
+/// before it.
 pub(crate) fn word_in(line: &[u8], before: u64) -> Result<Word, MessageError>
     ensures word { (text : List ℕ) → line.now ≡ text ++ 10 ∷ [] → IfOk result (λ word. word_in text ≡ Ok word) }
     ensures fault { (text : List ℕ) → line.now ≡ text ++ 10 ∷ [] → IfErr result (IsFault before (word_in text)) }
@@ -41,7 +42,8 @@ pub(crate) fn word_in(line: &[u8], before: u64) -> Result<Word, MessageError>
     }
 }
 
-/// What a line with its LF says within a batch that has these lines so far; so many lines stand before it.
+/// Returns what a line (with its LF) says within a batch, whose lines so far are `begun`. `before`
+/// is the number of lines before it.
 pub(crate) fn part_in(
     alloc: Global,
     begun: &[Read],
@@ -71,7 +73,7 @@ pub(crate) fn part_in(
     }
 }
 
-/// What a line without its LF says that is a word.
+/// Returns the word that a line (without its LF) is, if it is one.
 fn word_of(text: &[u8]) -> Option<Word>
     ensures { result ≡ word_of text.now }
 {
@@ -98,7 +100,7 @@ fn is_word(text: &[u8], word: &str) -> bool
     text == word.as_bytes()
 }
 
-/// Whether a line has the offset behind those of the lines of its batch so far.
+/// Returns whether a line has the offset that follows those of its batch so far.
 fn follows(begun: &[Read], read: &Read) -> bool
     ensures { result ≡ follows begun.now read.now }
 {
@@ -108,14 +110,14 @@ fn follows(begun: &[Read], read: &Read) -> bool
     }
 }
 
-/// Whether an offset is so many behind the first one.
+/// Returns whether an offset is `count` behind the first one.
 fn is_behind(first: u64, count: usize, offset: u64) -> bool
     ensures { result ≡ (offset == first + count) }
 {
     offset >= first && offset - first == count as u64
 }
 
-/// The fault of the line that so many stand before.
+/// Returns the error for a fault of the line with `before` lines before it.
 pub(crate) fn fault_behind(before: u64, fault: MessageFault) -> MessageError
     ensures { result ≡ MessageError.Fault (counted before) fault }
 {

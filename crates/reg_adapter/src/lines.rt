@@ -8,12 +8,13 @@ use reg_records::line_len;
 use std::alloc::{AllocError, Global};
 use std::marker::Model;
 
-/// Bytes that came, of which each whole line is taken once. Contracts see the bytes that no line was taken of, and how many lines were taken.
+/// A buffer of bytes as they come, of which each whole line is taken once. Contracts see the bytes
+/// that no line was taken of, and how many lines were taken.
 #[derive(Drop)]
 pub(crate) struct Lines {
     alloc: Global,
     held: Vec<u8>,
-    /// How many of the bytes that are held were taken.
+    /// How many of the held bytes were taken.
     passed: usize,
     /// How many lines were taken, up to `u64::MAX`.
     count: u64,
@@ -30,7 +31,7 @@ impl Model for Lines {
 }
 
 impl Lines {
-    /// Nothing has come.
+    /// Makes a buffer to which nothing has come.
     pub(crate) fn new(alloc: Global) -> Lines
         ensures { result ≡ record { bytes = []; count = 0 } }
     {
@@ -42,21 +43,21 @@ impl Lines {
         }
     }
 
-    /// How many lines were taken, up to `u64::MAX`.
+    /// Returns how many lines were taken, up to `u64::MAX`.
     pub(crate) fn count(&self) -> u64
         ensures { result ≡ self.now.count }
     {
         self.count
     }
 
-    /// The bytes that no line was taken of.
+    /// Returns the bytes that no line was taken of.
     pub(crate) fn unread(&self) -> &[u8]
         ensures { result.now ≡ self.now.bytes }
     {
         &self.held[self.passed..]
     }
 
-    /// Takes bytes that came behind those before. The only error is out of memory; all is then as it was.
+    /// Appends bytes that came. The only error is out of memory, with nothing changed.
     pub(crate) fn add(&mut self, bytes: &[u8]) -> Result<(), AllocError>
         ensures added { OnOk result (self.new ≡ record self.old { bytes = self.old.bytes ++ bytes.now }) }
         ensures refused { OnErr result (self.new ≡ self.old) }
@@ -70,7 +71,7 @@ impl Lines {
         Ok(())
     }
 
-    /// The line at the front with its LF, if it is whole.
+    /// Returns the line at the front with its LF, if it is whole.
     pub(crate) fn front(&self) -> Option<&[u8]>
         ensures { MatchOption result (HasNoLineFeed self.now.bytes) (λ line. IsFrontLine self.now.bytes line.now) }
     {
@@ -81,7 +82,7 @@ impl Lines {
         Some(&rest[..len + 1])
     }
 
-    /// Takes the line at the front, which has so many bytes with its LF.
+    /// Takes the line at the front, which has `len` bytes with its LF.
     pub(crate) fn pass(&mut self, len: usize)
         requires { len ≤ length self.old.bytes }
         ensures { self.new ≡ record { bytes = drop len self.old.bytes; count = counted self.old.count } }

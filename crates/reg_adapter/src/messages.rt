@@ -13,8 +13,9 @@ use reg_records::{LINE_LIMIT, LineError, Read};
 use std::alloc::{AllocError, Global};
 use std::mem;
 
-/// The bytes behind the base, as they come, of which each message is given once. The base itself is a log up to its empty line, which is read
-/// before, with `read_log`, off the same reader: that leaves what stands behind the empty line.
+/// A reader of an adapter's messages, which takes bytes as they come and gives each message once.
+/// The base is read before, with `read_log`, off the same reader: it is a log up to its empty line,
+/// and `read_log` leaves what is behind that.
 #[derive(Drop)]
 pub struct Messages {
     alloc: Global,
@@ -25,19 +26,19 @@ pub struct Messages {
     begun: Vec<Read>,
 }
 
-/// What became of the line at the front.
+/// What the line at the front was.
 #[derive(Drop)]
 enum Step {
-    /// It ends this message.
+    /// The end of this message.
     Told(AdapterMessage),
-    /// It is one of a batch that goes on.
+    /// A line of a batch that goes on.
     Within,
-    /// No whole line is there.
+    /// No whole line has come.
     Nothing,
 }
 
 impl Messages {
-    /// Nothing has come.
+    /// Makes a reader to which nothing has come.
     pub fn new(alloc: Global) -> Messages
         ensures { HasRead [] [] result }
     {
@@ -49,7 +50,7 @@ impl Messages {
         }
     }
 
-    /// Takes bytes that came behind those before. The only error is out of memory; all is then as it was.
+    /// Appends bytes that came. The only error is out of memory, with nothing changed.
     pub fn take(&mut self, bytes: &[u8]) -> Result<(), AllocError>
         ensures read { (text : List ℕ) (told : List AdapterMessage) → HasRead text told self.old → OnOk result (HasRead (text ++ bytes.now) told self.new) }
         ensures refused { OnErr result (self.new ≡ self.old) }
@@ -57,8 +58,9 @@ impl Messages {
         self.lines.add(bytes)
     }
 
-    /// Gives the next message, if it is whole. A line past its limit is refused before its LF has come. After an error no message is lost, and
-    /// the next call gives the same error, unless memory was refused.
+    /// Returns the next message, if it is whole. A line over the limit is refused before its LF has
+    /// come. An error loses no message, and the next call returns it again, unless memory was
+    /// refused.
     pub fn next(&mut self) -> Result<Option<AdapterMessage>, MessageError>
         ensures came { (text : List ℕ) (told : List AdapterMessage) → HasRead text told self.old → IfOk result (λ came. Comes text told came self.new) }
         ensures refused { (text : List ℕ) (told : List AdapterMessage) → HasRead text told self.old → IfErr result (IsRefusal text told self.new) }
@@ -72,7 +74,8 @@ impl Messages {
         }
     }
 
-    /// The input ended, once `next` gives nothing: it may do so between two messages alone.
+    /// Checks that the input may end here, once `next` returns nothing more. Returns a fault within
+    /// a line or a batch.
     pub fn end(&self) -> Result<(), MessageError>
         ensures ended { OnOk result (IsBetween self.now) }
         ensures refused { IfErr result (EndsWithin self.now) }

@@ -2,27 +2,31 @@
 use base_text::Listed;
 use reg_records::Read;
 
-/// What an adapter answers to a request.
+/// An adapter's answer to a request.
 #[derive(Clone, Copy, Debug, PartialEq, Eq)]
 pub enum AdapterAnswer {
-    /// The lines stand in the log, right behind what was told. Of a check: at some moment since it was asked nothing stood there.
+    /// `kept`: the lines are in the log, directly behind what was told. Of a check: at some moment
+    /// since it was asked, nothing more was there.
     Kept,
-    /// They don't stand there and never will: what came first has been told.
+    /// `behind`: the lines aren't in the log there and never will be; another batch came first, and
+    /// has been told.
     Behind,
-    /// They don't stand there and never will, and nothing came first. Of a check: the store can't be reached.
+    /// `declined`: the lines aren't in the log there and never will be, and no other batch came
+    /// first. Of a check: the store can't be reached.
     Declined,
-    /// It can't be known now: they may come to stand right here, until another batch does.
+    /// `lost`: the result can't be known now. Until another batch takes the place, the lines may
+    /// still appear there.
     Lost,
 }
 
 /// A message of an adapter.
 #[derive(Debug, Drop)]
 pub enum AdapterMessage {
-    /// A batch that others wrote stands in the log next: what its lines say, one or more, of which each has the offset behind that of the line
-    /// before it.
+    /// A batch that others wrote is next in the log: what its lines say, one or more, each with the
+    /// offset behind the one before it.
     Batch(Listed<Read>),
-    /// The answer to the request that was made first of those that have none.
+    /// The answer to the oldest request that has none.
     Answer(AdapterAnswer),
-    /// All was told that was acknowledged before the adapter began.
+    /// `ready`: all was told that was acknowledged before the adapter began.
     Ready,
 }

@@ -1,24 +1,25 @@
 // What becomes of requests and of messages.
 use reg_adapter::AdapterMessage;
 
-/// What becomes of a request.
+/// The result of asking for a request.
 #[derive(Clone, Copy, Debug, PartialEq, Eq)]
 pub enum Asking {
-    /// It is asked for, and its command waits.
+    /// The request is open and has to be sent; its command waits.
     Asked,
-    /// Something is due: it would be behind, and isn't asked for.
+    /// A batch of others is due, so the request would be behind. It isn't sent.
     Behind,
-    /// The request before has no answer yet.
+    /// The request before it has no answer yet. It isn't sent.
     Open,
-    /// Its first record hasn't the next offset.
+    /// Its first record doesn't have the next offset. It isn't sent.
     Misplaced,
 }
 
-/// Why a message isn't taken.
+/// An error of taking a message.
 #[derive(Debug, Drop)]
 pub enum TellError {
-    /// An answer that nobody asked for, or that records are kept though a batch came first.
+    /// The adapter is at fault: an answer without a request, or one that keeps records although
+    /// another batch came first.
     Fault,
-    /// Memory was refused. The message is given back, to be told again.
+    /// Memory was refused. The message is returned, to be told again.
     OutOfMemory(AdapterMessage),
 }

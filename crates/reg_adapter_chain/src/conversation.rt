@@ -13,12 +13,15 @@ use std::alloc::{AllocError, Global};
 use std::collections::VecDeque;
 use std::marker::Model;
 
-/// What an adapter told and what was asked of it, as far as it is still open. Batches are handed out in the order of the chain, each once: those
-/// of others, and an own one where its command no longer waited. An own one whose command waited counts as handed out with the answer.
+/// The open part of a conversation with an adapter: what it told and what was asked of it.
+///
+/// Batches are handed out in the order of the chain, each once: those of others, and an own one
+/// whose command no longer waits. An own one whose command waits counts as handed out with its
+/// answer.
 #[derive(Drop)]
 pub struct AdapterConversation {
     alloc: Global,
-    /// What was told and isn't handed out.
+    /// The batches that were told and aren't handed out.
     due: VecDeque<Listed<Record>>,
     /// The offset behind all that was told, up to `u64::MAX`.
     next: u64,
@@ -46,7 +49,7 @@ impl AdapterConversation {
     ghost use Rattle.reg_adapter_chain.specs.Requests.{crossing};
     ghost use Rattle.reg_adapter_chain.specs.Standing.{IsAsked, IsHanded, IsNotTold, IsTold};
 
-    /// Nothing was said behind a base whose next offset is this.
+    /// Makes a conversation in which nothing was said, behind a base whose next offset is `next`.
     pub fn new(alloc: Global, next: u64) -> AdapterConversation
         ensures { result ≡ record { due = []; next = next; request = None; waits = false } }
     {
@@ -59,8 +62,9 @@ impl AdapterConversation {
         }
     }
 
-    /// Asks for the batch to stand right behind all that was told; without records it is a check. It has to be sent then. The only error is out
-    /// of memory, with nothing changed.
+    /// Opens a request to append the batch directly behind all that was told; without records it is
+    /// a check. If the result is `Asked`, the caller has to send it. The only error is out of
+    /// memory, with nothing changed.
     pub fn ask(&mut self, batch: &[Record]) -> Result<Asking, AllocError>
         ensures asked { IfOk result (λ asking. IsAsked self.old batch.now asking self.new) }
         ensures refused { OnErr result (self.new ≡ self.old) }
@@ -83,28 +87,30 @@ impl AdapterConversation {
         Ok(Asking::Asked)
     }
 
-    /// Whether a command waits for the answer to the request.
+    /// Returns whether a command waits for the answer to the request.
     pub fn is_waited_for(&self) -> bool
         ensures { result ≡ self.now.waits }
     {
         self.waits
     }
 
-    /// Whether a request has no answer.
+    /// Returns whether a request has no answer yet.
     pub fn is_open(&self) -> bool
         ensures { result ≡ is_some self.now.request }
     {
         self.request.is_some()
     }
 
-    /// The command that waits goes on without its answer. If its batch is kept, it is handed out then like anybody's.
+    /// Lets the waiting command go on without its answer. If its batch is kept after all, it is
+    /// handed out like any other writer's.
     pub fn give_up(&mut self)
         ensures { self.new ≡ record self.old { waits = false } }
     {
         self.waits = false;
     }
 
-    /// Takes a message, and gives the answer of the command that waits, if it is one. After an error all is as it was.
+    /// Takes a message, and returns the answer for the waiting command, if the message is one. An
+    /// error changes nothing.
     pub fn tell(&mut self, told: AdapterMessage) -> Result<Option<ChainAnswer>, TellError>
         ensures told { IfOk result (λ answer. IsTold self.old told answer self.new) }
         ensures refused { IfErr result (λ error. IsNotTold self.old told error) }
@@ -122,21 +128,22 @@ impl AdapterConversation {
         }
     }
 
-    /// The next batch that is due, if one is.
+    /// Hands out the next batch that is due, if one is.
     pub fn next(&mut self) -> Option<Listed<Record>>
         ensures { IsHanded self.old result self.new }
     {
         self.due.pop_front()
     }
 
-    /// How many batches are due.
+    /// Returns how many batches are due.
     pub fn due_count(&self) -> usize
         ensures { result ≡ length self.now.due }
     {
         self.due.len()
     }
 
-    /// A batch of others is due behind what is. The only error is out of memory, with nothing changed.
+    /// Adds a batch of others behind what is due. The only error is out of memory, with nothing
+    /// changed.
     fn take_batch(&mut self, reads: &[Read]) -> Result<(), AllocError>
         ensures due { OnOk result (self.new.due ≡ self.old.due ++ batch_at self.old.next reads.now ∷ []) }
         ensures next { OnOk result (self.new.next ≡ counted_by (length (batch_at self.old.next reads.now)) self.old.next) }

@@ -7,7 +7,8 @@ ghost use Rattle.reg_adapter_chain.specs.Batches.{batch_at, begins_at, is_placed
 use reg_records::{Read, Record};
 use std::alloc::{AllocError, Global};
 
-/// The records of the lines, where each is one and they begin at that offset; else none. The only error is out of memory.
+/// Returns the records of the lines if all are records and begin at the offset `next`, and
+/// otherwise none. The only error is out of memory.
 pub(crate) fn records_at(
     alloc: Global,
     next: u64,
@@ -21,7 +22,7 @@ pub(crate) fn records_at(
     records_of(alloc, reads)
 }
 
-/// Whether the records begin at that offset; a check begins anywhere.
+/// Returns whether the records begin at the offset `next`; a check always does.
 pub(crate) fn begins_at(next: u64, batch: &[Record]) -> bool
     ensures { result ≡ begins_at next batch.now }
 {

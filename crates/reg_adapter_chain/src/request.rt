@@ -7,16 +7,16 @@ use reg_adapter::AdapterAnswer as Said;
 use reg_chain::ChainAnswer;
 use reg_records::Record;
 
-/// A request that has no answer yet.
+/// A request to an adapter that has no answer yet.
 #[derive(Debug, Drop)]
 pub struct AppendRequest {
-    /// What it asks for; a check has no records.
+    /// The records that it asks to append; none for a check.
     pub batch: Listed<Record>,
-    /// Whether a batch of others came since.
+    /// Whether a batch of others came since it was asked.
     pub crossed: bool,
 }
 
-/// A batch of others came.
+/// Notes that a batch of others came.
 pub(crate) fn cross(request: &mut Option<AppendRequest>)
     ensures { request.new ≡ crossing request.old }
 {
@@ -25,7 +25,7 @@ pub(crate) fn cross(request: &mut Option<AppendRequest>)
     }
 }
 
-/// Whether the answer says that records stand in the chain; a check has none.
+/// Returns whether the answer says that records are in the chain; a check has none.
 pub(crate) fn is_kept(said: Said, batch: &[Record]) -> bool
     ensures { result ≡ is_kept said batch.now }
 {
@@ -35,7 +35,7 @@ pub(crate) fn is_kept(said: Said, batch: &[Record]) -> bool
     }
 }
 
-/// What a command is told that waits.
+/// Returns the answer for the waiting command, if one waits.
 pub(crate) fn answer_for(waits: bool, said: Said, crossed: bool) -> Option<ChainAnswer>
     ensures { result ≡ (if waits then Some (meaning said crossed) else None) }
 {

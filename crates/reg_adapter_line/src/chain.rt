@@ -13,21 +13,24 @@ use std::marker::Model;
 use std::sync::{Arc, Wait};
 use std::time::{Clock, Duration};
 
-/// The chain behind an adapter, as a pen sees it. Contracts see it as the batches that it told: those that `next` gave, and those that were asked for
-/// and kept. No memory is kept of them.
+/// The chain behind an adapter, as the log's writer sees it. Contracts see it as the batches that
+/// it told: those that `next` returned, and those that `append` was answered `Kept` for. They take
+/// no memory.
 ///
-/// An answer comes through a lock, which says nothing of it: so the relation `answers` says nothing either. What an answer means is said of the
-/// conversation that gives it (`reg_adapter_chain`), and of what the call makes of one that doesn't come.
+/// An answer comes through a lock, of whose value nothing is known, so the relation `answers` says
+/// nothing. What an answer means is stated for the conversation that gives it
+/// (`reg_adapter_chain`).
 #[derive(Drop)]
 pub struct AdapterChain<R: Wait + Clock + Drop> {
     rt: R,
     alloc: Global,
     line: Arc<AdapterLine, Global>,
-    /// How long an answer is waited for.
+    /// How long a call waits for an answer.
     patience: Duration,
-    /// Where it is a pen's, whose commands share their checks: how long a check is waited for where that is to be brief.
+    /// If it is a pen's, whose commands share their checks: how long a check waits if it has to be
+    /// brief.
     brief: Option<Duration>,
-    /// The number of the last request that the chain kept; 0 where there was none.
+    /// The number of the last request that was answered `Kept`; 0 if there was none.
     answered: u64,
     told: ToldList<Listed<Record>>,
 }
@@ -42,7 +45,8 @@ impl<R: Wait + Clock + Drop> Model for AdapterChain<R> {
 }
 
 impl<R: Wait + Clock + Drop> AdapterChain<R> {
-    /// Nothing was told. An answer is waited for as long as `patience` says, and before that as long for one that somebody else waits for.
+    /// Makes a chain to which nothing was told. A call waits for its answer for `patience` at most,
+    /// and before that as long again for an answer that another caller waits for.
     pub fn new(
         rt: R,
         alloc: Global,
@@ -62,9 +66,11 @@ impl<R: Wait + Clock + Drop> AdapterChain<R> {
         }
     }
 
-    /// Nothing was told to the pen that this is the chain of, whose commands share their checks: a check is kept at once where any request was
-    /// kept that was made after the command came which is done now, as the line's arrivals have it. Where that command waits only briefly, a check
-    /// is waited for no longer than `brief`.
+    /// Makes the chain of a pen (a log's single writer), to which nothing was told. Its commands
+    /// share their checks: a check is `Kept` at once if a request was kept that was made after the
+    /// current command came, by the line's [`Arrivals`](reg_chain::Arrivals).
+    ///
+    /// If the current command waits only briefly, a check waits for `brief` at most.
     pub fn of_pen(
         rt: R,
         alloc: Global,
@@ -85,12 +91,13 @@ impl<R: Wait + Clock + Drop> AdapterChain<R> {
         }
     }
 
-    /// Whether a check needn't be asked for: a request was kept that was made after the command came which is done now.
+    /// Returns whether a check needn't be sent: a request was kept that was made after the current
+    /// command came.
     fn is_answered(&self) -> bool {
         self.brief.is_some() && self.line.arrivals().is_since(self.answered)
     }
 
-    /// How long an answer to that batch is waited for.
+    /// Returns how long to wait for the answer to that batch.
     fn patience_for(&self, batch: &[Record]) -> Duration {
         match self.brief {
             Some(brief) if batch.is_empty() && self.line.arrivals().is_brief() => brief,
@@ -104,9 +111,12 @@ impl<R: Wait + Clock + Drop> Chain for AdapterChain<R> {
 
     ghost answers = { λ _ _ _ _. ⊤ };
 
-    /// It waits for the answer as long as its patience says. Where none came, or it is over, it can't be known whether records stand, and a check
-    /// is declined. A check that is asked for while a request has no answer, for which nobody waits any more, is declined at once; a batch is
-    /// where that doesn't come within 300 ms. So is a record that no line has.
+    /// Waits for the answer for the chain's patience at most. If none comes, the result is
+    /// `Unknown` for a batch and `Declined` for a check.
+    ///
+    /// What isn't sent is `Behind` if a batch is due, and `Declined` otherwise: a batch with a
+    /// record that has no line, a check while an older request has no answer and nobody waits for
+    /// it, a batch if that answer takes longer than 300 ms, and anything once the line is over.
     fn append(&mut self, batch: &[Record]) -> ChainAnswer {
         if batch.is_empty() && self.is_answered() {
             return ChainAnswer::Kept;
@@ -137,7 +147,8 @@ impl<R: Wait + Clock + Drop> Chain for AdapterChain<R> {
     }
 }
 
-/// The bytes that ask for a batch; none where a record has no line, or one that is too long, or memory is refused.
+/// Writes the request for a batch; `None` if a record has no line, or one that is too long, or
+/// memory is refused.
 fn bytes_of(alloc: Global, batch: &[Record]) -> Option<Vec<u8>>
     ensures { IfSome result (λ bytes. bytes.items ≡ request_text batch.now) }
 {

@@ -9,11 +9,11 @@ use reg_chain::ChainAnswer;
 use reg_records::Record;
 use std::alloc::Global;
 
-/// So many batches may be due while nobody waits for an answer: a reader waits then until some were taken. Where somebody waits it reads on, since
-/// the answer stands behind them.
+/// The most batches that may be due while nobody waits for an answer: a reader then waits until
+/// some are taken. While somebody waits it reads on, since the answer follows them.
 pub(crate) const DUE_LIMIT: usize = 4_096;
 
-/// What a process and its adapter said to each other, and what is to be done about it.
+/// The exchange of a process and its adapter: what was said, and what is still to be done about it.
 #[derive(Drop)]
 pub(crate) struct Exchange {
     pub(crate) conversation: AdapterConversation,
@@ -23,7 +23,7 @@ pub(crate) struct Exchange {
     pub(crate) answer: Option<ChainAnswer>,
     /// Whether `ready` was read.
     pub(crate) is_ready: bool,
-    /// Why nothing more is told, once that is so.
+    /// Why the line is over, once it is.
     pub(crate) end: Option<LineEnd>,
 }
 
@@ -31,7 +31,7 @@ impl Exchange {
     ghost use Rattle.reg_adapter_line.specs.Answers.{settled};
     ghost use Rattle.reg_adapter_line.specs.Exchanges.{IsAskedFor, IsAtOnce, IsFull, IsHeard, IsNotHeard, IsOpen, IsTaken, IsWaiting, begun, by_settling};
 
-    /// Nothing was said yet behind a base whose next offset is this.
+    /// Makes an exchange in which nothing was said, behind a base whose next offset is `next`.
     pub(crate) fn new(alloc: Global, next: u64) -> Exchange
         ensures { result ≡ begun next }
     {
@@ -44,8 +44,8 @@ impl Exchange {
         }
     }
 
-    /// Asks for the batch by these bytes, where it may be asked for. None where it is, and its answer has to be waited for. Else nothing changes, and
-    /// it is answered at once.
+    /// Asks for a batch with these bytes. `None` means that it is asked for, and its answer has to
+    /// be waited for. Otherwise nothing changes, and the answer is returned at once.
     pub(crate) fn ask(&mut self, batch: &[Record], bytes: Vec<u8>) -> Option<ChainAnswer>
         ensures asked { IfNone result (IsAskedFor self.old batch.now bytes self.new) }
         ensures answered { IfSome result (IsAtOnce self.old) }
@@ -62,7 +62,8 @@ impl Exchange {
         None
     }
 
-    /// What a batch is answered that isn't asked for: it is behind where something is due, and else declined.
+    /// Returns the answer to a batch that isn't asked for: `Behind` if a batch is due, and
+    /// otherwise `Declined`.
     pub(crate) fn at_once(&self) -> ChainAnswer
         ensures { IsAtOnce self.now result }
     {
@@ -73,7 +74,7 @@ impl Exchange {
         }
     }
 
-    /// Takes a message. After an error all is as it was.
+    /// Takes a message. An error changes nothing.
     pub(crate) fn hear(&mut self, told: AdapterMessage) -> Result<(), TellError>
         ensures heard { OnOk result (IsHeard self.old told self.new) }
         ensures refused { IfErr result (IsNotHeard self.old told) }
@@ -90,7 +91,7 @@ impl Exchange {
         Ok(())
     }
 
-    /// Nothing more is told. The first reason stays.
+    /// Ends the line. The first reason stays.
     pub(crate) fn end_with(&mut self, end: LineEnd)
         ensures { self.new ≡ record self.old { end = Some (unwrap_or self.old.end end) } }
     {
@@ -99,7 +100,8 @@ impl Exchange {
         }
     }
 
-    /// What the command is told that waits no more: its answer, if it came. Else it goes on without.
+    /// Returns the answer for the command that stops waiting, if it came. Otherwise the command
+    /// goes on without it: `Unknown` for a batch, `Declined` for a check.
     pub(crate) fn settle(&mut self, batch: &[Record]) -> ChainAnswer
         ensures answers { result ≡ settled self.old.answer batch.now }
         ensures stands { self.new ≡ by_settling self.old }
@@ -115,28 +117,29 @@ impl Exchange {
         }
     }
 
-    /// Whether an answer may still come to the command that waits for one.
+    /// Returns whether an answer may still come to the command that waits for one.
     pub(crate) fn is_waiting(&self) -> bool
         ensures { IsTrue result ↔ IsWaiting self.now }
     {
         self.answer.is_none() && self.end.is_none()
     }
 
-    /// Whether whoever asks next has to wait: somebody waits for an answer, or hasn't taken it yet, and it isn't over.
+    /// Returns whether the next caller has to wait: the line isn't over, and an answer is waited
+    /// for or not taken yet.
     pub(crate) fn is_taken(&self) -> bool
         ensures { IsTrue result ↔ IsTaken self.now }
     {
         self.end.is_none() && (self.answer.is_some() || self.conversation.is_waited_for())
     }
 
-    /// Whether a request has no answer, and one may still come.
+    /// Returns whether a request has no answer, and one may still come.
     pub(crate) fn is_open(&self) -> bool
         ensures { IsTrue result ↔ IsOpen self.now }
     {
         self.end.is_none() && self.conversation.is_open()
     }
 
-    /// Whether a message has to wait until batches were taken.
+    /// Returns whether a message has to wait until batches are taken.
     pub(crate) fn is_full(&self) -> bool
         ensures { IsTrue result ↔ IsFull self.now }
     {
@@ -145,12 +148,13 @@ impl Exchange {
             && self.conversation.due_count() >= DUE_LIMIT
     }
 
-    /// Whether nothing can be taken up: nothing is due, `ready` wasn't read, and it isn't over.
+    /// Returns whether there is nothing to take: no batch is due, `ready` wasn't read, and the line
+    /// isn't over.
     pub(crate) fn is_silent(&self) -> bool {
         !self.is_ready && self.end.is_none() && self.conversation.due_count() == 0
     }
 
-    /// Whether no request is to be written, and one may still come.
+    /// Returns whether no request is to be written, and one may still come.
     pub(crate) fn is_idle(&self) -> bool {
         self.request.is_none() && self.end.is_none()
     }

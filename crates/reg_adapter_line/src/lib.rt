@@ -1,19 +1,26 @@
-//! The line between a process and its adapter, for all threads of the process: one thread reads what the adapter tells, one writes what is asked
-//! of it, and a log's pen asks and takes through [`AdapterChain`], which is the adapter's chain as one of its writers sees it.
+//! The line between a process and its adapter, shared by all threads of the process.
 //!
-//! What is said and what is due is one value, an exchange over a conversation (`reg_adapter_chain`), under one lock that nobody holds while it
-//! waits. An answer is waited for as long as the patience of whoever asked says. Who asks meanwhile waits for that. Once it goes on without its
-//! answer, nothing more is asked until that comes, and a batch that it says is kept is handed out like anybody's.
+//! An *adapter* is a program that keeps the log in a store, which many processes write. One thread
+//! reads what it tells ([`read_messages`]), one writes what is asked of it ([`send_requests`]), and
+//! the writer of the log asks and takes through [`AdapterChain`]:
 //!
 //! ```text
 //! input  -> read_messages -> AdapterLine -> AdapterChain::next, AdapterChain::append
 //! output <- send_requests <- AdapterLine <- AdapterChain::append
 //! ```
 //!
-//! Who counts what is said is told of each message and request by those two, through [`Overhear`]: nobody else reads what an adapter says.
+//! One idea: what was said and what is due is one value, an exchange over a conversation
+//! (`reg_adapter_chain`), under one lock that no thread holds while it waits. A caller waits for an
+//! answer for its patience at most. If it gives up, nothing more is asked until the answer comes,
+//! and a batch that was kept is handed out like any other.
 //!
-//! What each call does with the exchange is proved, and what a message is. That threads run, that what one puts in is what another takes out, and
-//! what the pipes carry is not: a lock says no more of its value than the value's type does.
+//! [`Overhear`] is called for each message and request, for those who count them.
+//!
+//! What each call does with the exchange is proved. Threads and pipes aren't: a lock says no more
+//! of its value than the value's type does. So [`AdapterChain`] keeps the clause `told` of
+//! `Chain::append` (`reg_chain`), and what an answer means is stated in `reg_adapter_chain`.
+//!
+//! Tests: `test_log`.
 #![tactic(auto)]
 
 mod chain;

@@ -15,13 +15,14 @@ use std::sync::{Condvar, CondvarTimeouts, Mutex, Wait};
 use std::thread::{self, Parker};
 use std::time::{Clock, Duration};
 
-/// A message that memory is refused for is told again so much later, in milliseconds.
+/// How long after memory was refused for a message it is told again, in milliseconds.
 pub(crate) const AGAIN: u64 = 20;
 
 /// How long a batch waits for the answer to a request that nobody waits for any more, in milliseconds.
 const OPEN_WITHIN: u64 = 300;
 
-/// What a process and its adapter told each other, for all threads of the process. No thread holds its lock while it waits.
+/// The line of a process to its adapter, shared by all its threads. No thread holds its lock while
+/// it waits.
 #[derive(Drop)]
 pub struct AdapterLine {
     exchange: Mutex<Exchange>,
@@ -40,7 +41,7 @@ pub struct AdapterLine {
 }
 
 impl AdapterLine {
-    /// Nothing was said yet behind a base whose next offset is `next`.
+    /// Makes a line on which nothing was said, behind a base whose next offset is `next`.
     pub fn new(alloc: Global, next: u64) -> AdapterLine {
         AdapterLine {
             exchange: Mutex::new(Exchange::new(alloc, next)),
@@ -56,37 +57,40 @@ impl AdapterLine {
         }
     }
 
-    /// It is unparked after each message and at the end. One thread may park on it.
+    /// Returns the parker that is unparked after each message and at the end. One thread may park
+    /// on it.
     pub fn grown(&self) -> &Parker {
         &self.grown
     }
 
-    /// Counts the requests that are made on it.
+    /// Returns the counter of the requests made on this line.
     pub fn arrivals(&self) -> &Arrivals {
         &self.arrivals
     }
 
-    /// Whether `ready` was read: all was told then that had been acknowledged before the adapter began.
+    /// Returns whether `ready` was read: all was told that had been acknowledged before the adapter
+    /// began.
     pub fn is_ready(&self) -> bool {
         self.is_ready.load(Ordering::SeqCst)
     }
 
-    /// Whether something that was told isn't handed out yet.
+    /// Returns whether a batch that was told isn't handed out yet.
     pub fn has_due(&self) -> bool {
         self.has_due.load(Ordering::SeqCst)
     }
 
-    /// Whether nothing more is told. What is due is still handed out.
+    /// Returns whether the line is over: nothing more is told. What is due is still handed out.
     pub fn is_over(&self) -> bool {
         self.is_over.load(Ordering::SeqCst)
     }
 
-    /// Why nothing more is told, once that is so.
+    /// Returns why the line is over, once it is.
     pub fn end<R: Wait>(&self, rt: &R) -> Option<LineEnd> {
         self.exchange.lock(rt).end
     }
 
-    /// Waits until something is due, `ready` was read, or it is over, but no longer than that. `false` where the time is up.
+    /// Waits until a batch is due, `ready` was read, or the line is over, for `within` at most.
+    /// Returns `false` if the time is up.
     pub fn wait_for_news<R: Wait + Clock>(&self, rt: &R, within: Duration) -> bool {
         let exchange = self.exchange.lock(rt);
         let (exchange, _result) = self
@@ -95,23 +99,26 @@ impl AdapterLine {
         !exchange.is_silent()
     }
 
-    /// Ends it where a message isn't finished, or a request isn't read, within 30 s.
+    /// Ends the line if a message isn't finished, or a request isn't read, within 30 s.
     pub fn end_stalls<R: Wait + Clock>(&self, rt: &R) {
         if let Some(end) = self.stalls.late(rt) {
             self.end_with(rt, end);
         }
     }
 
-    /// What a batch is answered that can't be asked for.
+    /// Answers a batch that can't be asked for.
     pub(crate) fn refuse<R: Wait>(&self, rt: &R) -> ChainAnswer
         ensures { IsRefusal result }
     {
         self.exchange.lock(rt).at_once()
     }
 
-    /// Asks for a batch by these bytes, and waits for the answer, as long as `patience` says; gives the number of the request, too, or 0 where it
-    /// wasn't made. Where somebody else waits for an answer it is asked for after that one, but for this too it waits no longer. Where nobody waits
-    /// any more for an answer that is still missing, a batch is asked for once that came within 300 ms, and a check isn't.
+    /// Sends a batch, as these bytes, and waits for the answer for `patience` at most. Returns the
+    /// answer and the request's number, or 0 if it wasn't made.
+    ///
+    /// If another caller waits for an answer, it waits for that one first, for `patience` at most.
+    /// If an answer is missing that nobody waits for, a batch waits for it for 300 ms at most, and
+    /// a check isn't sent.
     pub(crate) fn ask<R: Wait + Clock>(
         &self,
         rt: &R,
@@ -144,7 +151,7 @@ impl AdapterLine {
         (answer, number)
     }
 
-    /// The next batch that is due, if one is.
+    /// Hands out the next batch that is due, if one is.
     pub(crate) fn next<R: Wait>(&self, rt: &R) -> Option<Listed<Record>> {
         let mut exchange = self.exchange.lock(rt);
         let batch = exchange.conversation.next();
@@ -154,7 +161,7 @@ impl AdapterLine {
         batch
     }
 
-    /// Takes a message once there is room for it. Where memory is refused for it it tries again.
+    /// Takes a message once there is room for it. Tries again while memory is refused.
     pub(crate) fn tell<R: Wait + Clock>(&self, rt: &R, told: AdapterMessage) {
         let mut told = told;
         for _ in rt.forever() {
@@ -166,7 +173,7 @@ impl AdapterLine {
         }
     }
 
-    /// Nothing more is told.
+    /// Ends the line: nothing more is told.
     pub(crate) fn end_with<R: Wait>(&self, rt: &R, end: LineEnd) {
         let mut exchange = self.exchange.lock(rt);
         exchange.end_with(end);
@@ -175,7 +182,7 @@ impl AdapterLine {
         self.wake();
     }
 
-    /// Waits for a request that is to be written, and gives its bytes; none once it is over.
+    /// Waits for a request to write, and returns its bytes; `None` once the line is over.
     pub fn wait_for_request<R: Wait>(&self, rt: &R) -> Option<Vec<u8>> {
         let exchange = self.exchange.lock(rt);
         let mut exchange = self.asked.wait_while(rt, exchange, |held| held.is_idle());
@@ -185,7 +192,7 @@ impl AdapterLine {
         exchange.request.take()
     }
 
-    /// Takes a message once there is room for it, and gives it back where memory is refused.
+    /// Takes a message once there is room for it, and returns it if memory is refused.
     fn hear<R: Wait>(&self, rt: &R, told: AdapterMessage) -> Option<AdapterMessage> {
         let exchange = self.exchange.lock(rt);
         let mut exchange = self.taken.wait_while(rt, exchange, |held| held.is_full());
@@ -203,7 +210,7 @@ impl AdapterLine {
         back
     }
 
-    /// Says what others read without the lock.
+    /// Updates the flags that others read without the lock.
     fn note(&self, exchange: &Exchange) {
         self.is_ready.store(exchange.is_ready, Ordering::SeqCst);
         self.has_due
@@ -211,7 +218,7 @@ impl AdapterLine {
         self.is_over.store(exchange.end.is_some(), Ordering::SeqCst);
     }
 
-    /// Wakes all that wait for a message; where it is over, all that wait.
+    /// Wakes all that wait for a message, and once the line is over, all that wait.
     fn wake(&self) {
         self.heard.notify_all();
         if self.is_over() {

@@ -1,44 +1,47 @@
 // What is said on a line, for those who count it.
 use reg_adapter::{AdapterAnswer, AdapterMessage};
 
-/// What a message of an adapter says.
+/// The kind of a message of an adapter.
 #[derive(Clone, Copy, Debug, PartialEq, Eq)]
 pub enum Heard {
     /// Others wrote a batch.
     Batch,
-    /// All was told that had been acknowledged before the adapter began.
+    /// `ready`: all was told that had been acknowledged before the adapter began.
     Ready,
-    /// What was asked for is kept; of a check, nothing came.
+    /// The batch that was asked for is kept; of a check, nothing more was there.
     Kept,
-    /// Something came first.
+    /// Another batch came first.
     Behind,
-    /// Nothing is kept, and nothing came first; of a check, the store can't be reached.
+    /// The batch isn't kept, and no other came first; of a check, the store can't be reached.
     Declined,
-    /// It isn't known whether it is kept.
+    /// It isn't known whether the batch is kept.
     Lost,
 }
 
-/// What an adapter is asked.
+/// The kind of a request to an adapter.
 #[derive(Clone, Copy, Debug, PartialEq, Eq)]
 pub enum AskedFor {
-    /// Whether anything came.
+    /// A check: whether anything more came.
     Check,
     /// To append a batch.
     Batch,
 }
 
-/// Is told what is said on a line to an adapter, as it is said. Its calls are made by the threads that read and write, which wait for them.
+/// A listener to the messages and requests of a line. The threads that read and write call it, and
+/// wait for each call.
 pub trait Overhear {
-    /// A message was read, and the line takes it next: so no request is made because of it before the call returns. It is called once for each
-    /// message, also where memory is refused for it and the line is told again, and for an answer that nobody asked for, with which the line ends.
-    /// A message that can't be read is none: the line ends with it, and of that nothing is heard.
+    /// Called once for each message that was read, before the line takes it, so no request is made
+    /// because of it before the call returns. It is called once even if memory is refused for the
+    /// message, and also for an answer without a request, which ends the line. It isn't called for
+    /// a message that can't be read, which ends the line too.
     fn heard(&self, message: Heard);
 
-    /// A request is about to be written: so its answer isn't read before the call returns. It is called once for each.
+    /// Called once for each request before it is written, so its answer isn't read before the call
+    /// returns.
     fn asked(&self, request: AskedFor);
 }
 
-/// What a message says.
+/// Returns the kind of a message.
 pub(crate) fn heard_in(told: &AdapterMessage) -> Heard {
     match told {
         AdapterMessage::Batch(_) => Heard::Batch,
@@ -50,7 +53,8 @@ pub(crate) fn heard_in(told: &AdapterMessage) -> Heard {
     }
 }
 
-/// What these bytes ask. A check is an empty line alone, and a batch begins with an offset.
+/// Returns the kind of a request by its bytes: a check is an empty line alone, and a batch begins
+/// with an offset.
 pub(crate) fn asked_by(request: &[u8]) -> AskedFor {
     if request.starts_with(b"\n") {
         AskedFor::Check

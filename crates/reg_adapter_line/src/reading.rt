@@ -15,12 +15,12 @@ use std::sync::Wait;
 use std::thread;
 use std::time::{Clock, Duration};
 
-/// What one read gave.
+/// The result of one read.
 #[derive(Clone, Copy, Debug, PartialEq, Eq)]
 enum Piece {
     /// Bytes, which were taken.
     Bytes,
-    /// It was interrupted.
+    /// The read was interrupted.
     Nothing,
     /// Memory was refused, and nothing was taken.
     OutOfMemory,
@@ -28,9 +28,10 @@ enum Piece {
     End(LineEnd),
 }
 
-/// Reads messages to the end of the input, and tells the line of each, which is overheard. It waits for nothing but the input, and
-/// while 4,096 batches are due and nobody waits for an answer. Where memory is refused for a message it is told again, 20 ms later:
-/// none is lost. It returns once the line is over, and then a read at the latest.
+/// Reads messages to the end of the input, and passes each to `overhear` and then to the line. It
+/// waits only for the input, and while 4,096 batches are due and nobody waits for an answer. If
+/// memory is refused for a message, it tries again after 20 ms; none is lost. Returns once the line
+/// is over, at the latest after one more read.
 pub fn read_messages<B: BufRead, R: Wait + Clock, H: Overhear>(
     rt: &R,
     alloc: Global,
@@ -84,7 +85,7 @@ fn take_piece<B: BufRead>(reader: &mut B, messages: &mut Messages) -> Piece
     Piece::Bytes
 }
 
-/// How the input ended.
+/// Returns how the input ended.
 fn end_of(messages: &Messages) -> LineEnd
     ensures { (left : Option (List ℕ)) → IsAtEnd left → EndsAs left messages.now result }
 {
@@ -94,7 +95,8 @@ fn end_of(messages: &Messages) -> LineEnd
     }
 }
 
-/// Tells the line of each message that is whole, which is overheard before. Says whether there was one.
+/// Passes each message that is whole to `overhear` and then to the line. Returns whether there was
+/// one.
 pub fn tell_all<R: Wait + Clock, H: Overhear>(
     rt: &R,
     messages: &mut Messages,

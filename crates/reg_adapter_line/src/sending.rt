@@ -6,8 +6,8 @@ use std::io::{self, Write};
 use std::sync::Wait;
 use std::time::Clock;
 
-/// Writes each request whole, one after the other, until the line is over. Each is overheard before it is written. A fault of the writer ends
-/// the line.
+/// Writes each request whole, one at a time, until the line is over. Each is passed to `overhear`
+/// before it is written. A fault of the writer ends the line.
 pub fn send_requests<W: Write, R: Wait + Clock, H: Overhear>(
     rt: &R,
     writer: &mut W,

@@ -4,7 +4,8 @@ ghost use Rattle.std.specs.Borrow.{ftrue};
 
 use std::marker::{Model, PhantomData};
 
-/// A list that contracts alone read, as `items`. It takes no memory, and its methods do nothing at run time.
+/// A list that only contracts read, as `items`. It takes no memory, and its methods do nothing at
+/// run time.
 #[derive(Drop)]
 pub(crate) struct ToldList<T> {
     of: PhantomData<T>,
@@ -19,14 +20,14 @@ impl<T> Model for ToldList<T> {
 unsafe impl<T: Send> Send for ToldList<T> {}
 
 impl<T> ToldList<T> {
-    /// Nothing was told.
+    /// Makes an empty list.
     pub(crate) fn new() -> ToldList<T>
         ensures { result.items ≡ [] }
     {
         ToldList { of: PhantomData }
     }
 
-    /// This was told too.
+    /// Returns the list with one more item at its end.
     pub(crate) fn and(&self, item: &T) -> ToldList<T>
         ensures { result.items ≡ self.now.items ++ item.now ∷ [] }
     {

@@ -11,8 +11,9 @@
 //! ([`compactions_answer_alike`]), and each command has the same reply and writes the same batch
 //! ([`compactions_step_alike`]).
 //!
-//! It doesn't say which records a compaction may drop; `reg_floored` does. It has no code that runs
-//! and no tests of its own.
+//! It doesn't say which records a compaction may drop; `reg_floored` does.
+//!
+//! Tests: none of its own, since no code runs.
 #![tactic(auto)]
 
 mod laws;

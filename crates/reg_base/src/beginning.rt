@@ -14,10 +14,12 @@ use reg_fold::reg_records::{Device, Output, read_log};
 use std::alloc::Global;
 use std::io::Read;
 
-/// Reads a log to the end of the input, and writes what a log begins with that begins anew at an offset: a compaction of
-/// what stands below it, in the order of the offsets, at the log's floor and with that next offset. What stands behind
-/// the log's empty line is left out, but a line that says where the log ends has to be right. The log is read to its end
-/// before the first byte is written.
+/// Reads a log to the end of the input and writes its base at the offset `below`: a compaction of
+/// its lines below that offset, in the order of the offsets, at the log's floor, with `below` as
+/// its next offset.
+///
+/// The whole input is read before the first byte is written. What is behind the log's empty line is
+/// left out; if it is a line that says where the log ends and it is wrong, the log is refused.
 pub fn base<R: Read, W: Output>(
     alloc: Global,
     below: u64,
@@ -37,7 +39,8 @@ pub fn base<R: Read, W: Output>(
     }
 }
 
-/// What a log begins with that begins anew at an offset.
+/// Returns the base of a log at the offset `below`, as [`base`] writes it. Errors: the log has a
+/// fault, it can't begin anew there (`NoEnd`, `Crossed`, `MarkDue`), or memory was refused.
 pub fn base_of(alloc: Global, log: &[u8], below: u64) -> Result<Vec<u8>, BaseError>
     ensures base { IfOk result (λ text. IsBase below log.now text.items) }
     ensures refused { IfErr result (IsNoBase below log.now) }

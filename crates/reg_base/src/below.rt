@@ -11,7 +11,8 @@ use reg_fold::reg_records::{Log, Read};
 use reg_journal::lines_are_logs;
 use std::alloc::{AllocError, Global};
 
-/// The lines of a text below an offset, behind that of its floor. The log was read from the text.
+/// Returns the lines of a text below an offset, behind its floor's line. `log` was read from the
+/// text.
 pub(crate) fn part_below(
     alloc: Global,
     text: &[u8],
@@ -29,7 +30,7 @@ pub(crate) fn part_below(
     Ok(part)
 }
 
-/// Adds those of the lines at the front of a text that stand below an offset. The text begins with so many lines.
+/// Adds those of the first `count` lines of a text that are below the offset.
 fn push_below(
     alloc: Global,
     part: &mut Vec<u8>,
@@ -50,8 +51,8 @@ fn push_below(
     Ok(())
 }
 
-/// Adds the line at the front of a text, where it stands below the offset, and gives its length with its LF, unless it
-/// has a fault.
+/// Adds the line at the front of a text if it is below the offset. Returns its length in bytes,
+/// with its LF; `None` if it has a fault.
 fn push_front(
     alloc: Global,
     part: &mut Vec<u8>,
@@ -71,7 +72,7 @@ fn push_front(
     Ok(Some(len))
 }
 
-/// Whether what a line says stands below the offset.
+/// Returns whether what a line says is below the offset.
 fn is_below(below: u64, read: &Read) -> bool
     ensures { result ≡ is_below below read.now }
 {

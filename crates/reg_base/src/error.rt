@@ -5,16 +5,17 @@ use std::alloc::AllocError;
 use std::error::Error;
 use std::fmt;
 
-/// Why a log doesn't begin anew at an offset. Only where the writer failed was anything written.
+/// An error of making a base, which a log begins with anew at an offset. Only if the writer failed
+/// was anything written.
 #[derive(Clone, Copy, Debug, PartialEq, Eq)]
 pub enum BaseError {
     /// The log has a fault, the reader or the writer failed, or memory was refused.
     Filter(FilterError),
-    /// Neither a line of the log nor its floor ends right before the offset.
+    /// Neither a line of the log nor its floor ends directly before the offset.
     NoEnd,
-    /// The records of one command may stand on both sides of the offset.
+    /// The records of one command may be on both sides of the offset.
     Crossed,
-    /// A mark of ids is due at the offset.
+    /// A mark of ids (a record of the highest id ever given) is due at the offset.
     MarkDue,
 }
 
@@ -22,7 +23,8 @@ impl BaseError {
     ghost use Rattle.std.specs.Prelude.{◌≡◌};
     ghost use Rattle.reg_base.specs.Refusals.{exit_status};
 
-    /// The exit status of a program that ends with it.
+    /// Returns the exit status of a program that ends with this error: 2 if the offset doesn't fit,
+    /// and else that of the filter's error.
     pub fn status(self) -> u8
         ensures { result ≡ exit_status self }
     {

@@ -11,7 +11,7 @@ use reg_fold::reg_records::{Key, Record};
 use reg_fold::reg_set::RecordSet;
 use std::alloc::{AllocError, Global};
 
-/// Whether the records of one command may stand on both sides of the offset.
+/// Returns whether the records of one command may be on both sides of the offset.
 pub(crate) fn is_crossed(records: &[Record], below: u64) -> bool
     ensures { result ≡ list_any (may_cross below) records.now }
 {
@@ -28,7 +28,8 @@ fn may_cross(below: u64, given: &Record) -> bool
     }
 }
 
-/// Whether a mark of ids is due behind those records. The only error is out of memory.
+/// Returns whether a mark of ids (a record of the highest id ever given) is due behind those
+/// records. The only error is out of memory.
 pub(crate) fn owes_mark(alloc: Global, records: &[Record]) -> Result<bool, AllocError>
     ensures { IfOk result (λ owes. owes ≡ needs_mark (last_records (from_list records.now))) }
 {

@@ -8,20 +8,25 @@ use base_text::Listed;
 use reg_records::Record;
 use std::alloc::AllocError;
 
-/// What a chain answers to an append, or to a check, which appends nothing.
+/// A chain's answer to an append, or to a check, which is an append without records.
 #[derive(Clone, Copy, Debug, PartialEq, Eq)]
 pub enum ChainAnswer {
-    /// The batch stands right behind all that was told. Of a check: at some moment since it was asked nothing stood there.
+    /// The batch is in the chain, directly behind all that was told. Of a check: at some moment
+    /// since it was asked, nothing more was there.
     Kept,
-    /// It doesn't stand there and never will: what others wrote came first, and is told next.
+    /// The batch isn't in the chain there and never will be: another writer's batch came first, and
+    /// is told next.
     Behind,
-    /// It doesn't stand there and never will, and nobody else's came first: the store declined it, or can't be reached.
+    /// The batch isn't in the chain there and never will be, and no other came first: the store
+    /// declined it, or can't be reached.
     Declined,
-    /// It can't be known now: it may come to stand right here, until another one does. If it does, it is told like anybody's.
+    /// The result can't be known now. Until another batch takes the place, this one may still
+    /// appear there; if it does, it is told like any other writer's.
     Unknown,
 }
 
-/// A log that many write, as one of its writers sees it: batches in one order, which is the same for all.
+/// A log that many write, as one of its writers sees it: batches in one order, which is the same
+/// for all writers.
 pub trait Chain {
     // The batches that were told so far, in their order: those that others wrote, and the own ones that were kept.
     ghost told: { Self → List (List Record) };
@@ -29,12 +34,14 @@ pub trait Chain {
     // What an answer means in this chain: what it was before, the batch, the answer, what it is then.
     ghost answers: { Self → List Record → ChainAnswer → Self → Type 0 };
 
-    /// Asks for the batch to stand right behind all that was told; without records it is a check.
+    /// Asks to append the batch directly behind all that was told. Without records it is a check,
+    /// which appends nothing.
     fn append(&mut self, batch: &[Record]) -> ChainAnswer
         ensures told { told self.new ≡ told_after (told self.old) batch.now result }
         ensures means { answers self.old batch.now result self.new };
 
-    /// The next batch that others wrote, if one is there. The only error is out of memory, and it is told later then.
+    /// Returns the next batch that others wrote, if there is one. The only error is out of memory;
+    /// that batch is then returned by a later call.
     fn next(&mut self) -> Result<Option<Listed<Record>>, AllocError>
         ensures told { IfOk result (λ batch. told self.new ≡ told self.old ++ option_to_list batch) }
         ensures refused { OnErr result (told self.new ≡ told self.old) };

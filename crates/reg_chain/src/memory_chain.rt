@@ -8,7 +8,8 @@ use reg_records::Record;
 use std::alloc::{AllocError, Global};
 use std::marker::Model;
 
-/// A chain in memory, as one of its writers sees it. What others write is put into it. It ends with the process.
+/// A chain in memory, as one of its writers sees it. `put` adds the batches of other writers. It
+/// ends with the process.
 #[derive(Drop)]
 pub struct MemoryChain {
     alloc: Global,
@@ -29,7 +30,7 @@ impl Model for MemoryChain {
 }
 
 impl MemoryChain {
-    /// A chain without batches.
+    /// Makes a chain without batches.
     pub fn new(alloc: Global) -> MemoryChain
         ensures { result ≡ record { told = []; ahead = [] } }
     {
@@ -40,7 +41,8 @@ impl MemoryChain {
         }
     }
 
-    /// Another writer's batch comes to stand at the end. The only error is out of memory, with nothing changed.
+    /// Adds another writer's batch at the end. The only error is out of memory, with nothing
+    /// changed.
     pub fn put(&mut self, batch: Listed<Record>) -> Result<(), AllocError>
         ensures put { IfOk result (λ _. self.new ≡ record self.old { ahead = self.old.ahead ++ batch ∷ [] }) }
         ensures refused { OnErr result (self.new ≡ self.old) }

@@ -1,7 +1,11 @@
 -- What stands behind a log, and another disk that has it.
-use Rattle.std.specs.Prelude.{◌≡◌, ◌⊎◌, ◌<◌, ◌++◌, ℕ, List, [], ◌∷◌, length, Option, Some, None, Ok}
+use Rattle.std.specs.Prelude.{◌≡◌, ◌⊎◌, ⊤, ◌<◌, ◌++◌, ℕ, List, [], ◌∷◌, length, Option, Some, None, Ok}
 use Rattle.reg_records.specs.Log.{LogText, log_of}
-use Rattle.reg_journal.specs.Disk.{Keeps, Only}
+use Rattle.reg_journal.specs.Disk.{GaveFault, Keeps, Only}
+use Rattle.reg_journal.specs.Found.{HasFault, HasNoEmptyLine}
+use Rattle.reg_journal.specs.declared.disk.DiskError.{DiskError}
+use Rattle.reg_journal.specs.declared.opening.JournalOpenError.{JournalOpenError}
+use Rattle.reg_journal.specs.declared.opening.JournalOpenError.TheVariants.{Log, NoEmptyLine, Failed, OutOfMemory}
 
 -- the disk is opened, a read returns these bytes, and a crash leaves them
 abbrev pub HasForGood : {A : Type 0} → (A → List ℕ) → (A → List ℕ → Type 0) → List ℕ → Option A → Type 0
@@ -28,3 +32,15 @@ HasBehind seen may_leave old disk =
 -- something stands behind the log
 abbrev pub StandsBehind : List ℕ → Type 0
 StandsBehind old = (file : List ℕ) × IsEnded old file × (log : LogText) × (log_of file ≡ Ok log) × (0 < length log.rest)
+
+-- why a log isn't opened: it has that fault, read as it is or once an empty line ends it; or the empty line that was written isn't found
+abbrev pub IsOpenRefusal : List ℕ → JournalOpenError → Type 0
+IsOpenRefusal old (Log e) = (file : List ℕ) × IsEnded old file × (HasFault file e ⊎ HasFault (file ++ 10 ∷ []) e)
+IsOpenRefusal old NoEmptyLine = HasNoEmptyLine (old ++ 10 ∷ [])
+IsOpenRefusal old Failed = ⊤
+IsOpenRefusal old OutOfMemory = ⊤
+
+-- whoever opens the other disk gave a fault, or the disk that he opened
+abbrev pub GaveFaultAside : {A O : Type 0} → (A → DiskError → A → Type 0) → (O → DiskError → O → Type 0) → O → Option A → Type 0
+GaveFaultAside faults failures opener None = GaveFault failures opener
+GaveFaultAside faults failures opener (Some disk) = GaveFault failures opener ⊎ GaveFault faults disk

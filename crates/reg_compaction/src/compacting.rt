@@ -16,8 +16,10 @@ use reg_set::{
 };
 use std::alloc::{AllocError, Global};
 
-/// The lines of a log that have its last records, as they stand there, behind the line of its floor, and a foreign line
-/// where that alone has the offset before the log's next one. What follows the log's empty line is left out.
+/// Compacts a log at its own floor: returns the floor's line and the lines of the log's last
+/// records, unchanged and in their order. A foreign line (one of a kind unknown here) is kept if it
+/// alone has the offset before the log's next one. What follows the empty line is left out. Errors:
+/// the first line with a fault, or out of memory.
 pub fn compacted(alloc: Global, log: &[u8]) -> Result<Vec<u8>, LogError>
     ensures compacted { IfOk result (λ text. IsCompacted log.now text.items) }
     ensures lines { IfOk result (λ text. IsLines text.items) }
@@ -43,13 +45,13 @@ pub fn compacted(alloc: Global, log: &[u8]) -> Result<Vec<u8>, LogError>
     Ok(walk.finish()?)
 }
 
-/// What a log gives to the walk over its lines.
+/// What a walk over the lines of a log needs of it.
 #[derive(Drop)]
 pub(crate) struct Begun {
     pub waiting: LastRecords,
     /// The offset before its next one, unless that is 0.
     pub top: Option<u64>,
-    /// How many lines it has, but for its floor's.
+    /// The number of its lines without the floor's.
     pub count: u64,
 }
 
@@ -67,7 +69,7 @@ fn begin(alloc: Global, log: &[u8]) -> Result<Begun, LogError>
     })
 }
 
-/// The last records of the set of some records.
+/// Returns the last records of some records.
 pub(crate) fn lasts_of(alloc: Global, records: &[Record]) -> Result<LastRecords, AllocError>
     ensures { IfOk result (λ lasts. lasts ≡ last_records (from_list records.now)) }
 {

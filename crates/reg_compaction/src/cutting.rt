@@ -8,8 +8,8 @@ ghost use Rattle.reg_compaction.specs.Fronts.{floor_len};
 use reg_records::{Read, ReadLineError, is_floor_line, line_len, read_line};
 use std::alloc::{AllocError, Global};
 
-/// How many bytes the line at the front of a text takes with its LF, and what it says; none where it has no LF or
-/// a fault. The only error is out of memory.
+/// Reads the line at the front of a text: returns its length in bytes, with its LF, and what it
+/// says; `None` if it has no LF or a fault. The only error is out of memory.
 pub fn line_at(alloc: Global, text: &[u8]) -> Result<Option<(usize, Read)>, AllocError>
     ensures some { IfOk result (λ found. IfSome found (λ it. 0 < it.0)) }
     ensures within { IfOk result (λ found. IfSome found (λ it. it.0 ≤ length text.now)) }
@@ -26,7 +26,8 @@ pub fn line_at(alloc: Global, text: &[u8]) -> Result<Option<(usize, Read)>, Allo
     }
 }
 
-/// How many bytes the line of a log's floor takes with its LF; 0 where its first line says none.
+/// Returns the length in bytes of the line that says a log's floor, with its LF; 0 if the first
+/// line says none.
 pub fn floor_len(log: &[u8]) -> usize
     ensures len { result ≡ floor_len log.now }
     ensures within { result ≤ length log.now }
@@ -40,7 +41,7 @@ pub fn floor_len(log: &[u8]) -> usize
     }
 }
 
-/// How many LFs a text has.
+/// Returns how many LFs a text has.
 pub(crate) fn count_lines(text: &[u8]) -> u64
     ensures { result ≡ count_by is_line_feed text.now }
 {

@@ -17,7 +17,7 @@ use std::error::Error;
 use std::fmt;
 use std::io::{ErrorKind, Read};
 
-/// Why a filter ended before its end.
+/// An error of a filter, which reads a log from a reader and writes to a writer.
 #[derive(Clone, Copy, Debug, PartialEq, Eq)]
 pub enum FilterError {
     /// The first line of the log that has a fault; lines count from 1. Nothing was written.
@@ -26,15 +26,16 @@ pub enum FilterError {
     ReadFault,
     /// The writer failed. A part of the output may have been written.
     WriteFault,
-    /// The floor is lower than the log's, which is this one. Nothing was written.
+    /// The floor is below the log's own, which is given. Nothing was written.
     FloorBelow(u64),
-    /// The floor is above the log's next offset, which is this one. Nothing was written.
+    /// The floor is above the log's next offset, which is given. Nothing was written.
     FloorAhead(u64),
     /// With the floor's line the log would have more lines than a log may have. Nothing was written.
     NoRoom,
-    /// The line behind the log says another end than the log's. Nothing was written.
+    /// The line behind the log says another end than the log has: a part is missing. Nothing was
+    /// written.
     Cut,
-    /// The log didn't find room. Nothing was written.
+    /// Memory was refused. Nothing was written.
     OutOfMemory,
 }
 
@@ -42,7 +43,8 @@ impl FilterError {
     ghost use Rattle.std.specs.Prelude.{◌≡◌};
     ghost use Rattle.reg_compaction.specs.Filter.{exit_status};
 
-    /// The exit status of a program that ends with it.
+    /// Returns the exit status of a program that ends with this error: 2 for a faulty log or floor,
+    /// 1 for a reader, a writer or memory that failed.
     pub fn status(self) -> u8
         ensures { result ≡ exit_status self }
     {
@@ -82,9 +84,12 @@ impl fmt::Display for FilterError {
 
 impl Error for FilterError {}
 
-/// Reads a log to the end of the input, and writes what compacting leaves of it, by the offsets. What stands behind the
-/// log's empty line is left out, but a line that says where the log ends has to be right. The log is read to its end before
-/// the first byte is written.
+/// Reads a log to the end of the input, compacts it at its own floor, and writes its lines in the
+/// order of their offsets.
+///
+/// The whole input is read before the first byte is written. What is behind the log's empty line is
+/// left out; if it is a line that says where the log ends and it is wrong, the log is refused
+/// (`Cut`).
 pub fn compact<R: Read, W: Output>(
     alloc: Global,
     reader: &mut R,
@@ -103,7 +108,8 @@ pub fn compact<R: Read, W: Output>(
     }
 }
 
-/// Reads a log to the end of the input, and writes what compacting it to a floor leaves, as `compact` does.
+/// Reads a log to the end of the input, compacts it to `floor`, and writes its lines in the order
+/// of their offsets, as [`compact`] does.
 pub fn compact_to<R: Read, W: Output>(
     alloc: Global,
     floor: u64,
@@ -124,7 +130,8 @@ pub fn compact_to<R: Read, W: Output>(
     }
 }
 
-/// All that a reader gives: the input of a filter, unless a line behind its log says that it is cut.
+/// Reads a filter's input to its end. Refuses it if a line behind its log says that it was cut
+/// short.
 pub fn read_input<R: Read>(alloc: Global, reader: &mut R) -> Result<Vec<u8>, FilterError>
     ensures read { IfOk result (λ bytes. IfSome (R.remaining reader.old) (λ input. bytes.items ≡ input)) }
     ensures not_cut { OnOk result (IfSome (R.remaining reader.old) IsNotCut) }
@@ -143,7 +150,8 @@ pub fn read_input<R: Read>(alloc: Global, reader: &mut R) -> Result<Vec<u8>, Fil
     }
 }
 
-/// Writes the bytes whole, and flushes them: the output of a filter. Where the writer fails, a part may have been written.
+/// Writes a filter's output whole, and flushes it. If the writer fails, a part may have been
+/// written.
 pub fn write_output<W: Output>(writer: &mut W, bytes: &[u8]) -> Result<(), FilterError>
     ensures written { OnOk result (Appends (W.contents writer.old) (W.contents writer.new) bytes.now) }
     ensures flushed { OnOk result (IsFlushed W.contents W.flushes writer.new) }
@@ -158,7 +166,7 @@ pub fn write_output<W: Output>(writer: &mut W, bytes: &[u8]) -> Result<(), Filte
     }
 }
 
-/// Why a filter ends whose log wasn't read.
+/// Turns an error of reading a log into the filter's.
 pub fn filter_error(e: LogError) -> FilterError
     ensures { result ≡ filter_error_of e }
 {
@@ -169,7 +177,7 @@ pub fn filter_error(e: LogError) -> FilterError
     }
 }
 
-/// Why a filter ends whose log wasn't compacted to a floor.
+/// Turns an error of compacting a log to a floor into the filter's.
 fn to_floor_error(e: ToFloorError) -> FilterError
     ensures { result ≡ filter_error_to e }
 {

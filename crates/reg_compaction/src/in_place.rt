@@ -10,19 +10,20 @@ use crate::shrinking::{Shrunk, read_shrunk};
 use reg_journal::{DiskError, Journal, RenewError, Renewable, lines_are_logs};
 use std::alloc::{AllocFailed, Global};
 
-/// Why a journal's file wasn't compacted.
+/// An error of compacting a journal's file. A *broken* journal takes no batch any more.
 #[derive(Clone, Copy, Debug, PartialEq, Eq)]
 pub enum JournalCompactError {
-    /// The journal is as it was, and goes on.
+    /// Memory was refused. The journal is as it was, and goes on.
     OutOfMemory,
-    /// The disk failed: the file couldn't be read, or no new one be finished. The journal is as it was, and goes on.
+    /// The disk failed: the file couldn't be read, or the new one couldn't be finished. The journal
+    /// is as it was, and goes on.
     Failed,
-    /// What was read answered with a fault when its lines were gone over, which bytes in memory don't do. The journal is
-    /// as it was, and goes on.
+    /// Reading the bytes of the file in memory failed, which bytes in memory don't do. The journal
+    /// is as it was, and goes on.
     Unread,
-    /// The file isn't what was left there, which never comes of a disk that is modelled. Nothing is written any more.
+    /// The file isn't what the journal left, which no modelled disk causes. The journal is broken.
     Changed,
-    /// The new file may stand in the file's place or not. Nothing is written any more.
+    /// The new file may be in place or not. The journal is broken.
     Lost,
     /// The journal was broken before.
     Broken,
@@ -68,7 +69,7 @@ impl<T: Drop> From<AllocFailed<T>> for JournalCompactError {
 }
 
 impl JournalCompactError {
-    /// Whether the journal takes no batch any more.
+    /// Returns whether this error leaves the journal broken: it takes no batch any more.
     pub fn breaks(self) -> bool
         ensures { result ≡ breaks self }
     {
@@ -83,7 +84,9 @@ impl JournalCompactError {
     }
 }
 
-/// Compacts the file of a journal, in its place, and tells how many lines it has then.
+/// Compacts the file of a journal in its place, at its own floor, and returns how many lines it
+/// then has. A crash during the call leaves a file that says what it said before, or its
+/// compaction.
 pub fn compact_journal<D: Renewable>(
     alloc: Global,
     journal: &mut Journal<D>,
@@ -108,8 +111,10 @@ pub fn compact_journal<D: Renewable>(
     compact_superseded(alloc, journal, 0, None)
 }
 
-/// Compacts the file of a journal, in its place, where at least so many of its lines would go, and tells how many
-/// wouldn't. It compacts to that floor, or, where the file can't have it or none is asked for, at the file's own.
+/// Compacts the file of a journal in its place if that drops at least `least` lines, and returns
+/// how many lines a compaction keeps. It compacts to `floor`, or at the file's own floor if `floor`
+/// is `None` or the file can't have it. A crash during the call leaves a file that says what it
+/// said before, or its compaction.
 pub fn compact_superseded<D: Renewable>(
     alloc: Global,
     journal: &mut Journal<D>,

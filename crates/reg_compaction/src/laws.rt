@@ -5,8 +5,8 @@ use reg_floored::{compactions_compose, compactions_unite, last_records_are_compa
 use reg_journal::batches_add_records;
 use reg_set::records_are_ordered;
 
-/// What a compacted file says may stand for what the whole one said: also with batches from its floor on behind it, and
-/// once it is compacted again.
+/// States that a compacted file may stand for the whole one, also with batches from its floor on
+/// behind it, and once it is compacted again. Costs nothing at run time.
 pub fn compactions_stand_for_logs()
     ensures compacted { CompactedFilesSayIt }
     ensures itself { EachSaysItsOwnCompaction }

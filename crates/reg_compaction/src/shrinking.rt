@@ -14,14 +14,15 @@ use reg_journal::{Disk, Journal};
 use reg_records::LogError;
 use std::alloc::Global;
 
-/// The bytes of a file that has an empty line behind its lines, and how many lines it has.
+/// The bytes of a compacted file, with its empty line, and the number of lines before that.
 #[derive(Drop)]
 pub(crate) struct Shrunk {
     pub bytes: Vec<u8>,
     pub kept: u64,
 }
 
-/// Reads the file of a journal, and compacts what was read. A file that isn't what was left breaks the journal.
+/// Reads the file of a journal and compacts those bytes. If the file isn't what the journal left,
+/// the journal is broken.
 pub(crate) fn read_shrunk<D: Disk>(
     alloc: Global,
     journal: &mut Journal<D>,
@@ -52,7 +53,7 @@ pub(crate) fn read_shrunk<D: Disk>(
     }
 }
 
-/// Breaks a journal where the error does.
+/// Breaks the journal if the error does.
 fn give_up_at<D: Disk>(journal: &mut Journal<D>, error: JournalCompactError)
     requires { journal.old.is_broken ≡ false }
     ensures { journal.new ≡ record journal.old { is_broken = breaks error } }

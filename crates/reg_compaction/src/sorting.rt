@@ -24,7 +24,8 @@ pub(crate) struct Piece<'a> {
     pub line: &'a [u8],
 }
 
-/// What compacting leaves of a log, with its lines in the order of their offsets, behind the line of its floor.
+/// Compacts a log at its own floor, as `compacted` does, and puts its lines in the order of their
+/// offsets, behind the floor's line.
 pub fn compacted_in_order(alloc: Global, log: &[u8]) -> Result<Vec<u8>, LogError>
     ensures compacted { IfOk result (λ text. IsSortedCompaction log.now text.items) }
     ensures fault { IfErr result (HasFault log.now) }
@@ -35,8 +36,8 @@ pub fn compacted_in_order(alloc: Global, log: &[u8]) -> Result<Vec<u8>, LogError
     Ok(in_order(alloc, text)?)
 }
 
-/// What compacting to a floor leaves of a log, with its lines in the order of their offsets, behind the line of the
-/// floor.
+/// Compacts a log to a floor, as `compacted_to` does, and puts its lines in the order of their
+/// offsets, behind the floor's line.
 pub fn compacted_to_in_order(alloc: Global, log: &[u8], floor: u64) -> Result<Vec<u8>, ToFloorError>
     requires { floor ≤ OFFSET_LIMIT }
     ensures compacted { IfOk result (λ text. IsSortedCompactionTo floor log.now text.items) }

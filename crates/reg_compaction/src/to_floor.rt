@@ -21,14 +21,14 @@ use reg_records::{
 use reg_set::{LastRecords, last_is_greatest, last_records_are_enough, records_are_ordered};
 use std::alloc::{AllocError, Global};
 
-/// Why a log isn't compacted to a floor.
+/// An error of compacting a log to a floor.
 #[derive(Clone, Copy, Debug, PartialEq, Eq)]
 pub enum ToFloorError {
     /// The log has a fault, or memory was refused.
     Log(LogError),
-    /// The floor is lower than the log's, which is this one.
+    /// The floor is below the log's own, which is given.
     FloorBelow(u64),
-    /// The floor is above the log's next offset, which is this one.
+    /// The floor is above the log's next offset, which is given.
     FloorAhead(u64),
     /// With the floor's line the log would have more lines than a log may have.
     NoRoom,
@@ -57,9 +57,10 @@ impl From<AllocError> for ToFloorError {
     }
 }
 
-/// The lines of a log that have its last records, but for those without a value below the floor, as they stand there,
-/// behind the line of the floor, which 0 hasn't; and a foreign line where that alone has the offset before the log's next
-/// one. What follows the log's empty line is left out.
+/// Compacts a log to a floor (the low-water mark), up to `OFFSET_LIMIT`: returns the floor's line,
+/// unless it is 0, and the lines of the log's last records, without tombstones below the floor,
+/// unchanged and in their order. A foreign line (one of a kind unknown here) is kept if it alone
+/// has the offset before the log's next one. What follows the empty line is left out.
 pub fn compacted_to(alloc: Global, log: &[u8], floor: u64) -> Result<Vec<u8>, ToFloorError>
     requires { floor ≤ OFFSET_LIMIT }
     ensures compacted { IfOk result (λ text. IsCompactedTo floor log.now text.items) }
@@ -90,7 +91,7 @@ pub fn compacted_to(alloc: Global, log: &[u8], floor: u64) -> Result<Vec<u8>, To
     Ok(text)
 }
 
-/// What compacting leaves of a log: to that floor, or, where the log can't have it or none is asked for, at its own.
+/// Compacts a log to a floor, or at its own floor if none is asked for or the log can't have it.
 pub(crate) fn compacted_by(
     alloc: Global,
     log: &[u8],
@@ -113,7 +114,7 @@ pub(crate) fn compacted_by(
     }
 }
 
-/// Why the log itself isn't compacted, unless it lacks the floor alone.
+/// Returns the error of the log itself; `None` if it only can't have the floor.
 fn log_error(error: ToFloorError) -> Option<LogError>
     ensures { (text : List ℕ) (floor : ℕ) → IsToFloorRefusal text floor error
         → MatchOption result (LacksFloor text floor) (HasFault text) }
@@ -146,7 +147,7 @@ fn begin_to(alloc: Global, log: &[u8], floor: u64) -> Result<Begun, ToFloorError
     })
 }
 
-/// What compacting to a floor keeps of the set of some records.
+/// Returns the records that compacting to a floor keeps.
 fn lasts_to(alloc: Global, records: &[Record], floor: u64) -> Result<LastRecords, AllocError>
     ensures { IfOk result (λ lasts. lasts ≡ compacted_to floor (from_list records.now)) }
 {

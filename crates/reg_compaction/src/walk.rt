@@ -10,21 +10,21 @@ use reg_records::Read;
 use reg_set::{LastRecords, last_is_greatest};
 use std::alloc::{AllocError, Global};
 
-/// What a walk has kept so far.
+/// The lines that a walk over a log has kept so far.
 #[derive(Drop)]
 pub(crate) struct Walk {
     /// The last records that no line was kept for yet.
     pub waiting: LastRecords,
     /// The line of the log's floor, if it has one, and the lines that were kept.
     pub text: Vec<u8>,
-    /// Whether one of them has the offset before the log's next one.
+    /// Whether one of those lines has the offset before the log's next one.
     pub has_top: bool,
     /// A foreign line that has it.
     pub carried: Option<Vec<u8>>,
 }
 
 impl Walk {
-    /// Takes the lines at the front of a text, as many as that, of a log with that offset before its next one.
+    /// Takes `count` lines at the front of a text. `top` is the offset before the log's next one.
     pub(crate) fn take_lines(
         &mut self,
         alloc: Global,
@@ -44,7 +44,8 @@ impl Walk {
         Ok(())
     }
 
-    /// Takes the line at the front of a text, and gives its length with its LF, unless it has a fault.
+    /// Takes the line at the front of a text. Returns its length in bytes, with its LF; `None` if
+    /// it has a fault.
     fn take_front(
         &mut self,
         alloc: Global,
@@ -61,7 +62,8 @@ impl Walk {
         Ok(Some(len))
     }
 
-    /// The lines that were kept, and the foreign line where it alone has that offset.
+    /// Returns the lines that were kept, and the foreign line if it alone has the offset before the
+    /// log's next one.
     pub(crate) fn finish(self) -> Result<Vec<u8>, AllocError>
         ensures { IfOk result (λ text. text.items ≡ finished self) }
     {
@@ -102,7 +104,7 @@ impl Walk {
     }
 }
 
-/// Whether the line is kept; its record waits no more then.
+/// Returns whether to keep the line, and stops waiting for its record if so.
 fn takes(waiting: &mut LastRecords, read: &Read) -> bool
     ensures kept { result ≡ is_kept waiting.old read.now }
     ensures waiting { waiting.new ≡ waiting_after waiting.old read.now }

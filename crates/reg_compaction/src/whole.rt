@@ -11,14 +11,14 @@ use reg_journal::lines_are_logs;
 use reg_records::{Device, LogError, Output, read_log};
 use std::alloc::{AllocError, AllocFailed, Global};
 
-/// What such a line begins with.
+/// The beginning of a line that says where a log ends.
 const END_MARK: &[u8] = b"end ";
 
-/// The same, behind an LF.
+/// An LF and that beginning.
 const LINE_MARK: &[u8] = b"\nend ";
 
-/// Writes a log that no empty line ends yet, an empty line, and the line that says how many lines of records the log has,
-/// and its next offset.
+/// Writes a log, which must have no empty line yet, then an empty line, and then `end COUNT NEXT`:
+/// the number of its lines without the floor's, and its next offset. Flushes the writer.
 pub fn write_whole_log<W: Output>(
     alloc: Global,
     log: Vec<u8>,
@@ -35,15 +35,16 @@ pub fn write_whole_log<W: Output>(
     }
 }
 
-/// Whether what stands behind a log's empty line is a line that says where the log ends.
+/// Returns whether the bytes behind a log's empty line are a line that says where the log ends.
 pub fn is_end(behind: &[u8]) -> bool
     ensures { result ≡ is_end behind.now }
 {
     behind.starts_with(END_MARK)
 }
 
-/// Refuses a text with another end behind its log than the log's. One without such a line passes. A fault of the log may
-/// be met too.
+/// Checks the line that says where a log ends, behind the log's empty line. Returns `Cut` if it
+/// says another end than the log has; a text without such a line passes. Also returns a fault of
+/// the log that it meets.
 pub fn check_end(alloc: Global, text: &[u8]) -> Result<(), FilterError>
     ensures not_cut { OnOk result (IsNotCut text.now) }
     ensures refused { IfErr result (IsNoReading (Some text.now)) }
@@ -64,7 +65,8 @@ pub fn check_end(alloc: Global, text: &[u8]) -> Result<(), FilterError>
     }
 }
 
-/// Whether a line of a text behind the first one may be one that says where a log ends: a look at the bytes alone.
+/// Returns whether some line behind the first may be one that says where a log ends. Looks at the
+/// bytes alone.
 fn has_end(text: &[u8]) -> bool
     ensures { (front behind : List ℕ) → text.now ≡ front ++ 10 ∷ behind → is_end behind ≡ true → result ≡ true }
 {
@@ -76,7 +78,7 @@ fn has_end(text: &[u8]) -> bool
     false
 }
 
-/// A log with an empty line and the line that says where it ends.
+/// Appends an empty line and the line that says where the log ends.
 fn with_end(alloc: Global, log: Vec<u8>) -> Result<Vec<u8>, LogError>
     ensures whole { IfOk result (λ text. (found : LogText) × (log_of log.items ≡ Ok found) × (text.items ≡ whole_text log.items found)) }
     ensures fault { IfErr result (HasFault log.items) }
@@ -85,7 +87,7 @@ fn with_end(alloc: Global, log: Vec<u8>) -> Result<Vec<u8>, LogError>
     Ok(joined(log, end)?)
 }
 
-/// A log, an empty line, and what stands behind it.
+/// Joins a log, an empty line, and what follows it.
 fn joined(log: Vec<u8>, end: Vec<u8>) -> Result<Vec<u8>, AllocError>
     ensures { IfOk result (λ text. text.items ≡ log.items ++ 10 ∷ end.items) }
 {
@@ -95,7 +97,7 @@ fn joined(log: Vec<u8>, end: Vec<u8>) -> Result<Vec<u8>, AllocError>
     Ok(text)
 }
 
-/// Reads a log: what stands behind its empty line, and the line that says where it ends.
+/// Reads a log. Returns what is behind its empty line, and the right line for where it ends.
 fn found_end<'a>(alloc: Global, text: &'a [u8]) -> Result<(&'a [u8], Vec<u8>), LogError>
     ensures found { IfOk result (λ it. (log : LogText) × (log_of text.now ≡ Ok log) × (it.0.now ≡ log.rest) × (it.1.items ≡ end_of log)) }
     ensures fault { IfErr result (HasFault text.now) }
@@ -109,7 +111,7 @@ fn found_end<'a>(alloc: Global, text: &'a [u8]) -> Result<(&'a [u8], Vec<u8>), L
     Ok((behind, end))
 }
 
-/// The line of a log with so many lines of records and that next offset, with its LF.
+/// Returns the line that says where a log ends, with its LF: `end RECORDS NEXT`.
 fn end_line(alloc: Global, records: u64, next: u64) -> Result<Vec<u8>, AllocError>
     ensures { IfOk result (λ line. line.items ≡ end_line records next) }
 {

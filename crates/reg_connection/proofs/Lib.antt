@@ -1,5 +1,6 @@
 mod Chosen
 mod FirstLines
+mod Gets
 mod NoTexts
 mod Sent
 mod Takes

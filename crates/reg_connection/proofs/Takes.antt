@@ -12,9 +12,9 @@ use Rattle.reg_refusals.specs.declared.refusal.Refusal.TheVariants as refusals
 use Rattle.reg_requests.specs.Action.{Given, action_asks, deleted, number_of, subject_in, switch}
 use Rattle.reg_requests.specs.Asked.{asked_of, asked_of_action, asked_of_body, asked_of_object, asked_of_parts, asked_of_route, asked_of_target, asked_of_texts, closing, given_of, named_version, names_version, object_in, or_closing, or_open, takes_body}
 use Rattle.reg_requests.specs.Body.{level_in, map_ok, mode_in, registration_in, schema_in}
-use Rattle.reg_requests.specs.Types.{has_accepted_types}
 use Rattle.reg_requests.specs.declared.asked.Asked.{Asked}
 use Rattle.reg_requests.specs.declared.asked.Asked.TheVariants as asked
+use Rattle.reg_messages.specs.Parts.{Parts, parts_of}
 use Rattle.reg_messages.specs.declared.request.Request.{Request}
 use Rattle.reg_routes.specs.Router.{route_of}
 use Rattle.reg_routes.specs.Routes.{action_of, allow_of, number_place, subject_place}
@@ -78,7 +78,7 @@ takes-action actions.SetMode given =
     (Some kinds.Command) (λ mode. refl)
 takes-action actions.ClearMode given = refl
 
-module _ (r : Request) (route : Route) (action : Action) where
+module _ (r : Parts) (route : Route) (action : Action) where
   takes-body : (subject number : Option (List ℕ)) (body : List ℕ)
       → TakesTurn (asked_of_body r route action subject number body) (kind_of_action action)
   takes-body subject number body =
@@ -99,9 +99,9 @@ module _ (r : Request) (route : Route) (action : Action) where
   takes-asked_action : (told : Option ℕ) → TakesTurn (asked_of_action r told route action) (kind_of_action action)
   takes-asked_action told =
       takes-if (takes_body r.method && is_none told) _ _ (kind_of_action action) tt
-      (takes-if (takes_body r.method && not (has_accepted_types r.fields)) _ _ (kind_of_action action) tt takes-parts)
+      (takes-if (takes_body r.method && not r.is_accepted) _ _ (kind_of_action action) tt takes-parts)
 
-takes-route : (r : Request) (told : Option ℕ) (route : Route) → TakesTurn (asked_of_route r told route) (kind_on r.method route)
+takes-route : (r : Parts) (told : Option ℕ) (route : Route) → TakesTurn (asked_of_route r told route) (kind_on r.method route)
 takes-route r told route = by_action (action_of route r.method)
   where
     by_action : (o : Option Action)
@@ -110,7 +110,7 @@ takes-route r told route = by_action (action_of route r.method)
     by_action None = tt
     by_action (Some action) = takes-asked_action r route action told
 
-takes-target : (r : Request) (told : Option ℕ) → TakesTurn (asked_of_target r told) (kind_of r.method r.target)
+takes-target : (r : Parts) (told : Option ℕ) → TakesTurn (asked_of_target r told) (kind_of r.method r.target)
 takes-target r told = by_path (is_path r.target) (route_of (path_of r.target))
   where
     by_path : (b : Bool) (o : Option Route)
@@ -123,4 +123,4 @@ takes-target r told = by_path (is_path r.target) (route_of (path_of r.target))
 -- what a request asks takes the turn that its method and its target tell
 pub takes-asked : (r : Request) → TakesTurn (asked_of r) (kind_of r.method r.target)
 unfolding asked_of
-takes-asked r = takes-closing (asked_of_target r) (told_length r.fields) (kind_of r.method r.target) (λ told. takes-target r told)
+takes-asked r = takes-closing (asked_of_target (parts_of r)) (told_length r.fields) (kind_of r.method r.target) (λ told. takes-target (parts_of r) told)

@@ -14,7 +14,7 @@ use reg_records::Device;
 use std::alloc::Global;
 use std::io::Write;
 
-/// Has the desk learn of what the last answer on a connection stood on.
+/// Has the desk learn what the last answer on a connection stood on.
 fn learn<D: SharedDesk>(desk: &mut D, standing: &Option<D::Standing>)
     ensures { HasLearnt D.learns desk.old standing.now desk.new }
 {
@@ -23,9 +23,9 @@ fn learn<D: SharedDesk>(desk: &mut D, standing: &Option<D::Standing>)
     }
 }
 
-/// Answers the request at the front, which is whole and takes so many bytes. The desk learns first of
-/// what the last answer on the connection stood on. Says whether the connection goes on. The only error is a `WriteFault`: the request
-/// was done, and its response is written in part.
+/// Answers the request at the front, which is whole and has `len` bytes. The desk first learns what
+/// the last answer on the connection stood on. Returns the result. Fails with `WriteFault` only:
+/// the request was done, and its response is written in part.
 pub fn answer_one<W: Write, D: SharedDesk>(
     alloc: Global,
     paths: &mut Option<Paths>,
@@ -52,8 +52,8 @@ pub fn answer_one<W: Write, D: SharedDesk>(
     answered
 }
 
-/// Answers what is held, which is short of a request, where the client has ended its side, and says what became of it; `None` where no
-/// request was begun.
+/// Answers what is held, which is short of a request, after the client has ended its side. Returns
+/// the result; `None` if no request was begun. Fails as [`answer_one`] does.
 pub fn answer_last<W: Write, D: SharedDesk>(
     alloc: Global,
     paths: &mut Option<Paths>,

@@ -1,4 +1,4 @@
-// A connection: what came on it, what is to be sent, and what it waits for.
+// A connection: the bytes that came, the answers left to send, and what it waits for.
 ghost use Rattle.std.specs.Prelude.{◌≡◌, ◌≢◌, ◌⊎◌, [], length, nat_lt};
 ghost use Rattle.std.specs.declared.io.ErrorKind.TheVariants as kinds;
 ghost use Rattle.reg_connection.specs.Connection.{Gives, IsDone, IsGone, KeepsTimes, WaitsOn, weight_of};
@@ -13,55 +13,55 @@ use reg_conversation::Conversation;
 use std::alloc::Global;
 use std::io::ErrorKind;
 
-/// The most reads of one look at a connection.
+/// The most reads in one look at a connection.
 const READS_AT_ONCE: u64 = 128;
 
-/// What is to become of a connection after a look at it.
+/// The next step of a connection after a look at it.
 #[derive(Clone, Copy, Debug, PartialEq, Eq)]
 pub enum Turn {
-    /// Nothing is to be done until its client does something.
+    /// Wait until its client does something.
     Waits,
-    /// More may be there; it is to be looked at again.
+    /// Look at it again: more may be there.
     Again,
-    /// A request is whole, or the client has ended its side: a worker is to answer.
+    /// Have a worker answer: a request is whole, or the client has ended its side.
     Ready,
-    /// It is to be closed.
+    /// Close it.
     Over,
 }
 
-/// A connection, which the poller holds or a worker has. Times are milliseconds of one clock.
+/// A connection, held by the poller or by a worker. Times are milliseconds of one clock.
 #[derive(Drop)]
 pub struct Connection<S: Stream, T: Drop> {
     pub stream: S,
-    /// Its place at the poller.
+    /// Its place in the table of the poller.
     pub place: usize,
     pub conversation: Conversation,
     /// What its last answer stood on.
     pub standing: Option<T>,
-    /// Answers that the client hasn't taken yet, but for so many bytes at the front.
+    /// Answers that the client hasn't taken yet; the first `sent` bytes are sent.
     unsent: Vec<u8>,
     sent: usize,
-    /// Whether it is closed after these.
+    /// Whether it is closed after these answers.
     closes: bool,
     waits: Waits,
-    /// Since when it waits.
+    /// The time since which it waits.
     since: u64,
-    /// When its last whole request came, or it came itself.
+    /// The time at which its last whole request came, or it was accepted.
     asked: u64,
-    /// How many bytes were dropped.
+    /// How many bytes were read and dropped.
     dropped: u64,
     /// Whether the client has ended its side.
     pub ended: bool,
-    /// Whether the poll knows it.
+    /// Whether the poll watches it.
     pub watched: bool,
-    /// Whether bytes may be there that weren't read when it was last looked at.
+    /// Whether there may be bytes that weren't read at the last look.
     pub stirred: bool,
-    /// The turn that it was given while it waited for one, until its request is answered.
+    /// The turn (slot for a long request) that it got, until its request is answered.
     pub turn: Option<TurnKind>,
 }
 
 impl<S: Stream, T: Drop> Connection<S, T> {
-    /// One that has just come.
+    /// Makes a connection that was just accepted.
     pub fn new(alloc: Global, stream: S, place: usize, now: u64) -> Connection<S, T>
         ensures since { result.since ≡ now }
         ensures asked { result.asked ≡ now }
@@ -87,14 +87,14 @@ impl<S: Stream, T: Drop> Connection<S, T> {
         }
     }
 
-    /// When its last whole request came, or it came itself.
+    /// Returns the time at which its last whole request came, or it was accepted.
     pub fn asked(&self) -> u64
         ensures { result ≡ self.now.asked }
     {
         self.asked
     }
 
-    /// How many bytes of unfinished requests and unread answers it holds.
+    /// Returns how many bytes of unfinished requests and unsent answers it holds.
     pub fn weight(&self) -> usize
         ensures { result ≡ weight_of self.now }
     {
@@ -103,7 +103,7 @@ impl<S: Stream, T: Drop> Connection<S, T> {
             .saturating_add(self.unsent.len())
     }
 
-    /// Whether it has waited for as long as it may, or longer.
+    /// Returns whether it has waited as long as its limit, or longer.
     pub fn is_late(&self, limits: &Limits, now: u64) -> bool
         ensures { result ≡ is_late limits.now self.now.waits (nat_lt 0 (length self.now.conversation)) self.now.since now }
     {
@@ -111,7 +111,8 @@ impl<S: Stream, T: Drop> Connection<S, T> {
         self.waits.is_late(limits, begun, self.since, now)
     }
 
-    /// A worker gives it back: what it waits for begins now. It holds no memory that it doesn't need.
+    /// Puts it back after a worker is done with it: its waiting begins now. Frees memory that it
+    /// doesn't need.
     pub fn rest(&mut self, alloc: Global, now: u64)
         ensures since { self.new.since ≡ now }
         ensures asked { self.new.asked ≡ now }
@@ -123,9 +124,10 @@ impl<S: Stream, T: Drop> Connection<S, T> {
         self.conversation.release(alloc);
     }
 
-    /// Does what can be done on it without waiting and without an answer. What it waits for began at that moment where the first
-    /// byte of a request came now, and where the client took the last byte of the answers. It is over only where its client has ended
-    /// its side, its stream broke, or it dropped as much as it may: what was sent before is the client's to read.
+    /// Does what can be done without waiting and without an answer, and returns the next step. The
+    /// waiting time begins anew when the first byte of a request comes, and when the client has
+    /// taken the last byte of the answers. It is over only if the client has ended its side, the
+    /// stream broke, or it dropped as much as it may.
     pub fn look(&mut self, alloc: Global, limits: &Limits, buffer: &mut [u8], now: u64) -> Turn
         ensures request { self.old.waits ≡ Waits.Request → WaitsOn now self.old self.new }
         ensures answering { self.old.waits ≡ Waits.Client → self.new.waits ≡ Waits.Client → self.new.since ≡ self.old.since }
@@ -141,7 +143,7 @@ impl<S: Stream, T: Drop> Connection<S, T> {
         }
     }
 
-    /// Reads what there is of a request.
+    /// Reads what came of a request.
     fn take(&mut self, buffer: &mut [u8], now: u64) -> Turn
         requires { self.old.waits ≡ Waits.Request }
         ensures times { WaitsOn now self.old self.new }
@@ -177,7 +179,8 @@ impl<S: Stream, T: Drop> Connection<S, T> {
         Turn::Again
     }
 
-    /// Reads once of a request: `Again` where what came doesn't end it. Where memory for what came is refused it is closing.
+    /// Reads a request once; `Again` if it isn't whole yet. If memory for the bytes is refused, the
+    /// connection is closed as after a last answer.
     pub fn receive(&mut self, buffer: &mut [u8]) -> Turn
         ensures times { KeepsTimes self.old self.new }
         ensures stream { self.new.stream ≡ self.old.stream }
@@ -199,8 +202,8 @@ impl<S: Stream, T: Drop> Connection<S, T> {
         }
     }
 
-    /// What becomes of it once bytes came. Where memory for them is refused it is closed as after a last answer, so that its client
-    /// still reads the answers that it was sent.
+    /// Adds bytes that came. If memory for them is refused, it is closed as after a last answer, so
+    /// that the client still reads the answers sent before.
     fn came(&mut self, bytes: &[u8]) -> Turn
         ensures times { KeepsTimes self.old self.new }
         ensures stream { self.new.stream ≡ self.old.stream }
@@ -215,7 +218,7 @@ impl<S: Stream, T: Drop> Connection<S, T> {
         }
     }
 
-    /// What becomes of it where a read or a write gave nothing.
+    /// Returns the next step after a read or a write that failed.
     fn missed(&mut self, kind: ErrorKind) -> Turn
         ensures times { KeepsTimes self.old self.new }
         ensures waits { self.new.waits ≡ self.old.waits }
@@ -232,7 +235,8 @@ impl<S: Stream, T: Drop> Connection<S, T> {
         }
     }
 
-    /// Keeps answers that the client hasn't taken, but for so many bytes at their front.
+    /// Keeps answers that the client hasn't taken; the first `sent` bytes are sent. Waits for the
+    /// client then.
     pub fn keep(&mut self, answers: Vec<u8>, sent: usize, closes: bool)
         ensures answers { self.new.unsent.items ≡ answers.items }
         ensures sent { self.new.sent ≡ sent }
@@ -245,7 +249,7 @@ impl<S: Stream, T: Drop> Connection<S, T> {
         self.waits = Waits::Client;
     }
 
-    /// Writes what the client takes of the answers that are left.
+    /// Writes as much of the kept answers as the client takes.
     fn give(&mut self, alloc: Global, buffer: &mut [u8], now: u64) -> Turn
         requires { self.old.waits ≡ Waits.Client }
         ensures answering { self.new.waits ≡ Waits.Client → self.new.since ≡ self.old.since }
@@ -266,7 +270,7 @@ impl<S: Stream, T: Drop> Connection<S, T> {
         }
     }
 
-    /// All answers are given, at this moment.
+    /// Goes on after the client has taken all answers.
     fn go_on(&mut self, buffer: &mut [u8], now: u64) -> Turn
         requires since { self.old.since ≡ now }
         requires waits { self.old.waits ≡ Waits.Request }
@@ -284,8 +288,8 @@ impl<S: Stream, T: Drop> Connection<S, T> {
         self.take(buffer, now)
     }
 
-    /// The last answer is written: ends its own side, and then drops what the client still sends, so that
-    /// the client reads that answer and meets no reset.
+    /// Closes it after the last answer: ends its own side, and then drops what the client still
+    /// sends, so that the client reads that answer and gets no reset.
     pub fn close(&mut self) -> Turn
         ensures times { KeepsTimes self.old self.new }
         ensures stream { self.new.stream ≡ self.old.stream }
@@ -299,7 +303,7 @@ impl<S: Stream, T: Drop> Connection<S, T> {
         Turn::Again
     }
 
-    /// Reads and drops what there is.
+    /// Reads and drops what came.
     fn linger(&mut self, limits: &Limits, buffer: &mut [u8]) -> Turn
         requires { self.old.waits ≡ Waits.End }
         ensures since { self.new.since ≡ self.old.since }

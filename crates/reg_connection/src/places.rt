@@ -13,13 +13,14 @@ use std::mem;
 /// Where the connection of a place is.
 #[derive(Drop)]
 pub enum Place<S: Stream + Drop, T: Drop> {
-    /// There is none.
+    /// There is no connection.
     Free,
-    /// The poller is at it: it was taken for a connection that isn't there yet, or its connection was taken out.
+    /// The poller works on it: the place was taken for a connection that isn't there yet, or its
+    /// connection was taken out.
     Out,
     /// The poller has it.
     Held(Connection<S, T>),
-    /// A worker has it, or it waits for one. Whether the poll reported it meanwhile.
+    /// A worker has it, or it waits for one. `stirred` is whether the poll reported it meanwhile.
     Lent { stirred: bool },
 }
 
@@ -34,7 +35,7 @@ impl<S: Stream + Drop, T: Drop> Place<S, T> {
     }
 }
 
-/// The connections of a node, each at its place.
+/// The connections of a node, in a table of fixed size.
 #[derive(Drop)]
 pub struct Places<S: Stream + Drop, T: Drop> {
     places: Vec<Place<S, T>>,
@@ -53,7 +54,7 @@ impl<S: Stream + Drop, T: Drop> Model for Places<S, T> {
 }
 
 impl<S: Stream + Drop, T: Drop> Places<S, T> {
-    /// So many places, all free.
+    /// Makes a table of `places` free places. The only error is out of memory.
     pub fn new(alloc: Global, places: usize) -> Result<Places<S, T>, AllocError>
         ensures { IfOk result (λ made. made ≡ all_free places) }
     {
@@ -70,7 +71,7 @@ impl<S: Stream + Drop, T: Drop> Places<S, T> {
         })
     }
 
-    /// A free place, if there is one. It is free no longer.
+    /// Takes a free place; `None` if there is none.
     pub fn take_free(&mut self) -> Option<usize>
         ensures { TakesFree self.old self.new result }
     {
@@ -83,35 +84,37 @@ impl<S: Stream + Drop, T: Drop> Places<S, T> {
         }
     }
 
-    /// Whether no place is free.
+    /// Returns whether no place is free.
     pub fn is_full(&self) -> bool
         ensures { result ≡ list_all (λ place. not (is_free place)) self.now.places }
     {
         self.places.iter().all(|place| !place.is_free())
     }
 
-    /// Whether all places are free.
+    /// Returns whether all places are free.
     pub fn is_empty(&self) -> bool
         ensures { result ≡ list_all is_free self.now.places }
     {
         self.places.iter().all(|place| place.is_free())
     }
 
-    /// How many connections were closed.
+    /// Returns how many connections were closed.
     pub fn closed(&self) -> u64
         ensures { result ≡ self.now.closed }
     {
         self.closed
     }
 
-    /// How many bytes of unfinished requests and unread answers all of them held when they were last seen.
+    /// Returns how many bytes of unfinished requests and unsent answers all of them held when they
+    /// were last seen; at most 2^64 - 1.
     pub fn weight(&self) -> usize
         ensures { result ≡ all_weight self.now }
     {
         sum_of(&self.weights)
     }
 
-    /// Says that the poll reported a place. Takes its connection out, where the poller has it.
+    /// Notes that the poll reported a place. If the poller has its connection, takes it out and
+    /// returns it.
     pub fn stir(&mut self, at: usize) -> Option<Connection<S, T>>
         ensures { Stirs at self.old self.new result }
     {
@@ -125,7 +128,7 @@ impl<S: Stream + Drop, T: Drop> Places<S, T> {
         }
     }
 
-    /// Takes the connection of a place out, which is held.
+    /// Takes out the connection of a place that is held.
     fn take_out(&mut self, at: usize) -> Option<Connection<S, T>>
         requires { IsSome (held_in (slice_get self.old.places at)) }
         ensures connection { result ≡ held_in (slice_get self.old.places at) }
@@ -137,7 +140,7 @@ impl<S: Stream + Drop, T: Drop> Places<S, T> {
         }
     }
 
-    /// Whether the poll reported a lent place meanwhile.
+    /// Returns whether the poll reported a lent place meanwhile.
     pub fn was_stirred(&self, at: usize) -> bool
         ensures { result ≡ is_stirred (slice_get self.now.places at) }
     {
@@ -171,7 +174,7 @@ impl<S: Stream + Drop, T: Drop> Places<S, T> {
         self.put(at, Place::Held(connection));
     }
 
-    /// Its connection goes to a worker, with so many bytes.
+    /// Marks a place as lent to a worker. Its connection holds `weight` bytes.
     pub fn lend(&mut self, at: usize, weight: usize, stirred: bool)
         ensures { self.new ≡ with_weight at (Place.Lent stirred) weight self.old }
     {
@@ -179,7 +182,7 @@ impl<S: Stream + Drop, T: Drop> Places<S, T> {
         self.put(at, Place::Lent { stirred });
     }
 
-    /// Closes the connection of a place, which is free then.
+    /// Closes the connection of a place and frees the place.
     pub fn leave(&mut self, at: usize)
         ensures { self.new ≡ left_at at self.old }
     {
@@ -188,7 +191,8 @@ impl<S: Stream + Drop, T: Drop> Places<S, T> {
         self.closed = self.closed.saturating_add(1);
     }
 
-    /// The held connection that has waited longest since its last whole request, if that came by some time.
+    /// Returns the place of the held connection that has waited longest since its last whole
+    /// request; `None` if none has waited since `by` or longer.
     pub fn oldest(&self, by: u64) -> Option<usize>
         ensures { IsOldest by self.now.places result }
     {
@@ -199,7 +203,7 @@ impl<S: Stream + Drop, T: Drop> Places<S, T> {
         place_of(oldest)
     }
 
-    /// The place that was found, or the next one, if its connection asked before.
+    /// Returns the place found so far, or the next one if its connection has waited longer.
     #[tactic(auto, using(crate::proofs::Chosen::oldest_more, crate::proofs::Chosen::oldest_past))]
     fn older(&self, found: Option<(usize, u64)>, at: usize, by: u64) -> Option<(usize, u64)>
         ensures { OldestOf at by self.now.places found → OldestOf (at + 1) by self.now.places result }
@@ -210,7 +214,7 @@ impl<S: Stream + Drop, T: Drop> Places<S, T> {
         }
     }
 
-    /// The held connection that holds most bytes, if one holds any.
+    /// Returns the place of the held connection that holds most bytes; `None` if none holds any.
     pub fn heaviest(&self) -> Option<usize>
         ensures { IsHeaviest self.now.places result }
     {
@@ -221,7 +225,7 @@ impl<S: Stream + Drop, T: Drop> Places<S, T> {
         place_of(heaviest)
     }
 
-    /// The place that was found, or the next one, if its connection holds more.
+    /// Returns the place found so far, or the next one if its connection holds more.
     #[tactic(auto, using(crate::proofs::Chosen::heaviest_more, crate::proofs::Chosen::heaviest_past))]
     fn heavier(&self, found: Option<(usize, u64)>, at: usize) -> Option<(usize, u64)>
         ensures { HeaviestOf at self.now.places found → HeaviestOf (at + 1) self.now.places result }
@@ -232,14 +236,14 @@ impl<S: Stream + Drop, T: Drop> Places<S, T> {
         }
     }
 
-    /// How many places there are.
+    /// Returns how many places there are.
     pub fn len(&self) -> usize
         ensures { result ≡ length self.now.places }
     {
         self.places.len()
     }
 
-    /// The connection of a place, where it is held.
+    /// Returns the connection of a place if it is held.
     pub fn held(&self, at: usize) -> Option<&Connection<S, T>>
         ensures { option_map (λ c. c.now) result ≡ held_in (slice_get self.now.places at) }
     {
@@ -250,7 +254,8 @@ impl<S: Stream + Drop, T: Drop> Places<S, T> {
     }
 }
 
-/// The place with the lesser time: one that was found, or another, whose time is to be no later than that.
+/// Returns the place with the lesser time: the one found so far, or another, which counts only if
+/// its time is at most `by`.
 fn lesser(found: Option<(usize, u64)>, at: usize, time: u64, by: u64) -> Option<(usize, u64)>
     ensures { result ≡ lesser found at time by }
 {
@@ -266,7 +271,8 @@ fn lesser(found: Option<(usize, u64)>, at: usize, time: u64, by: u64) -> Option<
     }
 }
 
-/// The place with the greater weight: one that was found, or another, whose weight is to be above 0.
+/// Returns the place with the greater weight: the one found so far, or another, which counts only
+/// if its weight is above 0.
 fn greater(found: Option<(usize, u64)>, at: usize, weight: u64) -> Option<(usize, u64)>
     ensures { result ≡ greater found at weight }
 {
@@ -282,7 +288,7 @@ fn greater(found: Option<(usize, u64)>, at: usize, weight: u64) -> Option<(usize
     }
 }
 
-/// The place that was found.
+/// Returns the place that was found.
 fn place_of(found: Option<(usize, u64)>) -> Option<usize>
     ensures { result ≡ option_map (λ chosen. chosen.0) found }
 {
@@ -292,14 +298,14 @@ fn place_of(found: Option<(usize, u64)>) -> Option<usize>
     }
 }
 
-/// The first free place.
+/// Returns the first free place.
 fn first_free<S: Stream + Drop, T: Drop>(places: &[Place<S, T>]) -> Option<usize>
     ensures { result ≡ position is_free places.now }
 {
     places.iter().position(|place| place.is_free())
 }
 
-/// The sum of the weights, or the greatest number.
+/// Returns the sum of the weights, at most 2^64 - 1.
 fn sum_of(weights: &[usize]) -> usize
     ensures { result ≡ min (sum weights.now) (2 ^ 64 - 1) }
 {

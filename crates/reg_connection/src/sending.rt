@@ -5,17 +5,17 @@ ghost use Rattle.reg_connection.specs.Sending.{TakesBytes};
 use crate::stream::Stream;
 use std::io::{self, ErrorKind};
 
-/// What became of one call of the system.
+/// The result of one call of the system.
 #[derive(Clone, Copy, Debug, PartialEq, Eq)]
 enum Step {
-    /// Some bytes were taken, or none because of an interruption.
+    /// Some bytes were sent, or the call was interrupted.
     Goes,
-    /// The client takes none now.
+    /// The client takes nothing now.
     Waits,
 }
 
-/// Writes bytes from a place on, as far as the client takes them now, and says whether none is left. What is counted as sent is
-/// what the client took, in order, also where an error ends it.
+/// Writes the bytes from `sent` on, as far as the client takes them now, and returns whether none
+/// is left. `sent` counts what the client took, in order, also at an error.
 pub fn send_some<S: Stream>(stream: &mut S, bytes: &[u8], sent: &mut usize) -> io::Result<bool>
     ensures onwards { sent.old ≤ sent.new }
     ensures fits { sent.old ≤ length bytes.now → sent.new ≤ length bytes.now }

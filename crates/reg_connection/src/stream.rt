@@ -4,7 +4,7 @@ ghost use Rattle.std.specs.Prelude.{⊤};
 use std::io::{self, Read, Write};
 use std::net::{Shutdown, TcpStream};
 
-/// A connection as the system gives it.
+/// A connection of the system.
 pub trait Stream {
     ghost use Rattle.std.specs.Io.{ReadsAtMost, WritesAtMost};
     ghost use Rattle.std.specs.Prelude.{[], IfErr, List, MatchResult, OnErr, length, take, ℕ};
@@ -13,26 +13,28 @@ pub trait Stream {
     /// The stream before, the bytes that its client took next, and the stream after.
     ghost took: { Self → List ℕ → Self → Type 0 };
 
-    /// A stream of which a call failed, otherwise than by an interruption or because nothing could be read or written then.
+    /// A stream of which a call failed, other than by an interruption or because nothing could be
+    /// read or written at that moment.
     ghost broke: { Self → Type 0 };
 
-    /// Reads into `buf`, and says how many bytes; 0 where the client has ended its side. `WouldBlock`
-    /// where nothing is there.
+    /// Reads into `buf`, and returns how many bytes; 0 if the client has ended its side. Fails with
+    /// `WouldBlock` if nothing came.
     fn receive(&self, buf: &mut [u8]) -> io::Result<usize>
         ensures few { ReadsAtMost result buf.new }
         ensures broke { IfErr result (λ e. BreaksOff e → broke self.now) };
 
-    /// Writes a front of `buf`, and says how many bytes; none after an error. `WouldBlock` where the client takes none now.
+    /// Writes a prefix of `buf`, and returns how many bytes. Fails with `WouldBlock` if the client
+    /// takes nothing now; nothing is written at an error.
     fn send(&mut self, buf: &[u8]) -> io::Result<usize>
         ensures few { WritesAtMost result buf.now }
         ensures taken { MatchResult result (λ n. took self.old (take n buf.now) self.new) (λ _. took self.old [] self.new) }
         ensures broke { IsNoWrite (length buf.now) result → broke self.new };
 
-    /// Tells the client that nothing more will be written.
+    /// Ends the own side: nothing more will be written.
     fn end_writing(&self) -> io::Result<()>
         ensures { OnErr result (broke self.now) };
 
-    /// Whether a read or write that can't go on waits for a while, before it answers `WouldBlock`.
+    /// Sets whether a read or write waits for a while before it fails with `WouldBlock`.
     fn set_patient(&self, patient: bool) -> io::Result<()>;
 }
 

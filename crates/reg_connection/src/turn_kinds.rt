@@ -12,17 +12,18 @@ use reg_messages::HEAD_LIMIT;
 use reg_routes::{Action, Route, is_path, path_of};
 use std::str;
 
-/// What may hold a worker for long. A request takes a turn of its kind, of which a node has fewer than workers.
+/// The kind of a request that may hold a worker for long. Each takes a *turn* of its kind, a slot
+/// of which a node has fewer than workers.
 #[derive(Clone, Copy, Debug, PartialEq, Eq)]
 pub enum TurnKind {
-    /// A command, which may wait for the pen and for the disk.
+    /// A command, which may wait for the pen (the writer of the log) and for the disk.
     Command,
     /// A check, which may compare large schemas.
     Check,
 }
 
-/// The turn that the request at the front of some bytes takes, whose head is whole; none where it looks something up, or is
-/// refused whatever its fields and its body say.
+/// Returns the turn that the request at the front of the bytes takes, once its head is whole;
+/// `None` if it looks something up, or is refused whatever its fields and its body say.
 pub fn turn_kind(paths: &Paths, bytes: &[u8]) -> Option<TurnKind>
     ensures { result ≡ kind_in bytes.now }
 {
@@ -31,13 +32,13 @@ pub fn turn_kind(paths: &Paths, bytes: &[u8]) -> Option<TurnKind>
     kind_of(paths, method, target)
 }
 
-/// Requests that ask for a command take a turn of commands, checks one of checks, and other queries none.
+/// States that commands take a turn of commands, checks one of checks, and other queries none.
 pub fn requests_take_their_turns()
     ensures { (text bytes after : List ℕ) (h : RequestHead) → front_of text ≡ head bytes after → IsHead bytes h
         → TakesTurn (asked_of (request_of h after)) (kind_in text) }
 {}
 
-/// The bytes in which a head is looked for.
+/// Returns the bytes in which a head is looked for.
 fn within_limit(bytes: &[u8]) -> &[u8]
     ensures { result.now ≡ within_limit bytes.now }
 {
@@ -48,7 +49,7 @@ fn within_limit(bytes: &[u8]) -> &[u8]
     }
 }
 
-/// The bytes without the CR and LF bytes at their front.
+/// Returns the bytes without the CR and LF bytes at their front.
 fn skip_blank(bytes: &[u8]) -> &[u8]
     ensures { result.now ≡ skip_blank bytes.now }
 {
@@ -68,7 +69,7 @@ fn is_skipped(b: u8) -> bool
     b == b'\r' || b == b'\n'
 }
 
-/// The bytes before the first separator, and those after it.
+/// Returns the bytes before the first separator, and those after it.
 fn split_once(bytes: &[u8], separator: u8) -> (&[u8], &[u8])
     ensures before { result.0.now ≡ before_first (λ b. b == separator) bytes.now }
     ensures after { result.1.now ≡ after_first (λ b. b == separator) bytes.now }
@@ -79,7 +80,7 @@ fn split_once(bytes: &[u8], separator: u8) -> (&[u8], &[u8])
     }
 }
 
-/// The turn that a method takes at a target.
+/// Returns the turn of a method at a target.
 fn kind_of(paths: &Paths, method: &[u8], target: &[u8]) -> Option<TurnKind>
     ensures { result ≡ kind_of method.now target.now }
 {
@@ -89,17 +90,22 @@ fn kind_of(paths: &Paths, method: &[u8], target: &[u8]) -> Option<TurnKind>
     }
 }
 
-/// The same, for a method that is a text.
+/// Returns the turn of a method, which is a text, at a target. No path offers a GET that takes one,
+/// so most requests need no look at their path here.
+#[tactic(auto, using(crate::proofs::Gets::get_takes_none))]
 fn kind_by(paths: &Paths, method: &str, target: &[u8]) -> Option<TurnKind>
     ensures { result ≡ kind_of method.now target.now }
 {
+    if method == "GET" {
+        return None;
+    }
     match str::from_utf8(target) {
         Ok(target) => kind_at(paths, method, target),
         Err(_) => None,
     }
 }
 
-/// The same, for a target that is a text too.
+/// Returns the turn of a method at a target, which are texts.
 fn kind_at(paths: &Paths, method: &str, target: &str) -> Option<TurnKind>
     ensures { result ≡ kind_of method.now target.now }
 {
@@ -112,7 +118,7 @@ fn kind_at(paths: &Paths, method: &str, target: &str) -> Option<TurnKind>
     }
 }
 
-/// The turn that a method takes at a path.
+/// Returns the turn of a method at a path.
 fn kind_on(route: Route, method: &str) -> Option<TurnKind>
     ensures { result ≡ kind_on method.now route }
 {
@@ -122,7 +128,7 @@ fn kind_on(route: Route, method: &str) -> Option<TurnKind>
     }
 }
 
-/// The turn that an action takes.
+/// Returns the turn of an action.
 fn kind_of_action(action: Action) -> Option<TurnKind>
     ensures { result ≡ kind_of_action action }
 {

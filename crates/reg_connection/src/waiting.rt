@@ -9,14 +9,14 @@ use crate::limits::Limits;
 pub enum Waits {
     /// The next request, or the rest of it.
     Request,
-    /// That the client takes the rest of the answers.
+    /// The client to take the rest of the answers.
     Client,
-    /// That the client ends its side: the last answer is written.
+    /// The client to end its side, after the last answer.
     End,
 }
 
 impl Waits {
-    /// How long it may wait, in milliseconds, where a request has begun or hasn't.
+    /// Returns how long it may wait, in milliseconds. `begun` is whether a request has begun.
     pub fn patience(self, limits: &Limits, begun: bool) -> u64
         ensures { result ≡ patience limits.now self begun }
     {
@@ -27,8 +27,8 @@ impl Waits {
         }
     }
 
-    /// Whether it has waited since some time for as long as it may, or longer. Times are milliseconds of
-    /// one clock.
+    /// Returns whether it has waited since then as long as its limit, or longer. Times are
+    /// milliseconds of one clock.
     pub fn is_late(self, limits: &Limits, begun: bool, since: u64, now: u64) -> bool
         ensures { result ≡ is_late limits.now self begun since now }
     {

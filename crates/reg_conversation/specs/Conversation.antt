@@ -8,7 +8,9 @@ use Rattle.reg_lookup.specs.declared.answered.Answer.{Answer}
 use Rattle.reg_lookup.specs.declared.query.Query.{Query}
 use Rattle.reg_records.specs.declared.device.Device.{Device}
 use Rattle.reg_messages.specs.Head.{front_of}
+use Rattle.reg_messages.specs.FrontRead.{IsFrontOf}
 use Rattle.reg_messages.specs.Reading.{IsShort}
+use Rattle.reg_messages.specs.declared.front.FrontRead.{FrontRead}
 use Rattle.reg_responses.specs.Writing.{LosesWriter}
 use Rattle.reg_messages.specs.Extent.{TakesInAll}
 use Rattle.reg_http.specs.Serve.{all_of, Answers, AnswersFirst, IsOutput, IsOver, StopsInNext}
@@ -21,6 +23,10 @@ use Rattle.reg_http.specs.declared.serving.ServeError.TheVariants as errors
 -- the request that begins with these bytes takes so many in all
 abbrev pub IsNeeded : List ℕ → ℕ → Type 0
 IsNeeded held n = (0 < n) × TakesInAll held n
+
+-- that is what was read of the request which begins with these bytes
+abbrev pub IsKnownFront : List ℕ → FrontRead → Type 0
+IsKnownFront held front = IsNeeded held front.len × IsFrontOf held front
 
 -- what is left after some requests: the bytes after them, where the connection goes on
 abbrev pub left_of : Bool → List ℕ → Option (List ℕ)

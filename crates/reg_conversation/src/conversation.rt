@@ -1,7 +1,8 @@
-// What came on a connection, and the responses to the requests at its front.
-ghost use Rattle.std.specs.Prelude.{◌≡◌, ◌<◌, ◌≤◌, ◌++◌, ℕ, List, [], length, take, drop, Option, IfOk, IfErr, IfSome, IfNone, OnOk, OnErr};
+// The bytes that came on a connection, and the responses to the requests at their front.
+ghost use Rattle.std.specs.Prelude.{◌≡◌, ◌<◌, ◌≤◌, ◌++◌, ℕ, List, [], length, take, drop, Option, IfOk, IfErr, IfSome, IfNone, MatchOption, OnOk, OnErr, option_map};
 ghost use Rattle.reg_records.specs.Device.{bytes_in, faults_of, interruptions_of};
 ghost use Rattle.reg_messages.specs.Head.{front_of};
+ghost use Rattle.reg_messages.specs.FrontRead.{IsFrontOf};
 ghost use Rattle.reg_messages.specs.Reading.{IsShort};
 ghost use Rattle.reg_responses.specs.declared.limits.TheConstants.{INTERRUPTION_LIMIT};
 ghost use Rattle.reg_messages.specs.Extent.{IsWhole, LacksHead};
@@ -9,57 +10,57 @@ ghost use Rattle.reg_http.specs.ServeSteps.{Steps};
 ghost use Rattle.reg_conversation.specs.Conversation.{AnswersAs, EndsAs, FailsFirst, IsNeeded, RepliesAll};
 
 use reg_http::{Desk, Paths, RequestOutcome, ServeError, answer_got};
-use reg_messages::{message_in, message_len};
+use reg_messages::{FrontRead, message_parts, read_front};
 use reg_records::Device;
 use std::alloc::{AllocError, Global};
 use std::io::Write;
 use std::marker::Model;
 
-/// What came on a connection and isn't answered yet. Contracts see its bytes.
-#[derive(Debug, Drop)]
+/// The bytes of a connection that came and aren't answered yet. Contracts see the bytes.
+#[derive(Drop)]
 pub struct Conversation {
     held: Vec<u8>,
-    // How many bytes the request at the front takes in all, once that was looked up.
-    needs: Option<usize>,
+    // What was read of the request at the front, once its head has ended or is refused.
+    front: Option<FrontRead>,
 }
 
 impl Model for Conversation {
     ghost use Rattle.std.specs.Prelude.{ℕ, List, IfSome};
-    ghost use Rattle.reg_conversation.specs.Conversation.{IsNeeded};
+    ghost use Rattle.reg_conversation.specs.Conversation.{IsKnownFront};
 
     ghost Value = { List ℕ };
 
     ghost view = { λ c. c.held.items };
 
-    ghost invariant = { λ c. IfSome c.needs (IsNeeded c.held.items) };
+    ghost invariant = { λ c. IfSome c.front (IsKnownFront c.held.items) };
 }
 
 impl Conversation {
-    /// One on which nothing came.
+    /// Makes a conversation without bytes.
     pub fn new(alloc: Global) -> Conversation
         ensures { result ≡ [] }
     {
         Conversation {
             held: Vec::new(alloc),
-            needs: None,
+            front: None,
         }
     }
 
-    /// How many bytes are held.
+    /// Returns how many bytes are held.
     pub fn held_len(&self) -> usize
         ensures { result ≡ length self.now }
     {
         self.held.len()
     }
 
-    /// The bytes that are held.
+    /// Returns the bytes that are held.
     pub fn bytes(&self) -> &[u8]
         ensures { result.now ≡ self.now }
     {
         &self.held
     }
 
-    /// Gives back the memory of bytes that were answered, where none are held.
+    /// Frees the memory of answered bytes if no bytes are held.
     pub fn release(&mut self, alloc: Global)
         ensures { self.new ≡ self.old }
     {
@@ -68,7 +69,7 @@ impl Conversation {
         }
     }
 
-    /// Adds bytes that came.
+    /// Adds bytes that came. The only error is out of memory; then nothing is added.
     pub fn feed(&mut self, bytes: &[u8]) -> Result<(), AllocError>
         ensures fed { OnOk result (self.new ≡ self.old ++ bytes.now) }
         ensures refused { OnErr result (self.new ≡ self.old) }
@@ -76,8 +77,8 @@ impl Conversation {
         self.held.extend_from_slice(bytes)
     }
 
-    /// How many bytes the request at the front takes, once it is whole; `None` while it is short. Its
-    /// head is looked at once, however many pieces its body comes in.
+    /// Returns how many bytes the request at the front has, once it is whole; `None` before. Its
+    /// head is read once, however many pieces its body comes in.
     pub fn front_len(&mut self) -> Option<usize>
         ensures same { self.new ≡ self.old }
         ensures some { IfSome result (λ n. 0 < n) }
@@ -97,24 +98,27 @@ impl Conversation {
         }
     }
 
-    /// How many bytes the request at the front takes in all, once the end of its head is there.
+    /// Returns how many bytes the request at the front has in all, once the end of its head is
+    /// there.
+    #[tactic(auto, using(crate::proofs::Needs::known_read, crate::proofs::Needs::needed_read, crate::proofs::Needs::needed_known, crate::proofs::Needs::lacks_read))]
     fn needed(&mut self) -> Option<usize>
         ensures same { self.new ≡ self.old }
         ensures needed { IfSome result (IsNeeded self.old) }
         ensures lacks { IfNone result (LacksHead (front_of self.old)) }
     {
-        match self.needs {
-            Some(len) => Some(len),
+        match &self.front {
+            Some(front) => Some(front.len()),
             None => {
-                let needs = message_len(&self.held);
-                self.needs = needs;
+                let front = read_front(&self.held);
+                let needs = len_of(&front);
+                self.front = front;
                 needs
             }
         }
     }
 
-    /// Answers the request at the front, which is whole and takes so many bytes, as it is answered in
-    /// any text that goes on from here, and says what became of it. The only error is a `WriteFault`.
+    /// Answers the request at the front, which is whole and has `len` bytes, and drops its bytes.
+    /// Returns the result. Fails with `WriteFault` only; the bytes are dropped then too.
     pub fn answer_front<W: Write, D: Desk>(
         &mut self,
         alloc: Global,
@@ -141,8 +145,9 @@ impl Conversation {
         }
     }
 
-    /// Answers what is held, which is short of a request, where nothing comes any more: it gets one
-    /// response, or none where no request is begun, and says what became of it. The only error is a `WriteFault`.
+    /// Answers the rest at the end of the input, which is short of a request: with one response, or
+    /// with none if no request was begun. Drops all bytes and returns the result. Fails with
+    /// `WriteFault` only.
     pub fn answer_last<W: Write, D: Desk>(
         &mut self,
         alloc: Global,
@@ -165,7 +170,7 @@ impl Conversation {
         self.answer_held(alloc, paths, len, writer, desk)
     }
 
-    /// Drops so many bytes, and answers the request at their front, as if nothing came after them.
+    /// Answers the request in the first `len` bytes, as if nothing came after them, and drops them.
     fn answer_held<W: Write, D: Desk>(
         &mut self,
         alloc: Global,
@@ -184,20 +189,41 @@ impl Conversation {
         ensures faults { OnOk result (faults_of writer.new ≡ faults_of writer.old) }
         ensures interruptions { interruptions_of writer.new ≤ INTERRUPTION_LIMIT }
     {
-        let got = message_in(alloc, &self.held[..len]);
+        let front = self.take_front(len);
+        let got = message_parts(&self.held[..len], front);
+        let answered = answer_got(alloc, paths, got, writer, desk);
         self.drop_front(len);
-        match answer_got(alloc, paths, got, writer, desk) {
+        match answered {
             Ok(outcome) => Ok(outcome),
             Err(_) => Err(ServeError::WriteFault),
         }
     }
 
-    /// Drops so many bytes at the front.
+    /// Returns what was read of the request at the front if it has `len` bytes; else reads it from
+    /// these bytes.
+    fn take_front(&mut self, len: usize) -> Option<FrontRead>
+        requires fits { len ≤ length self.old }
+        ensures same { self.new ≡ self.old }
+        ensures read { MatchOption result (LacksHead (front_of (take len self.old))) (IsFrontOf (take len self.old)) }
+    {
+        match self.front.take() {
+            Some(front) => {
+                if front.len() == len {
+                    Some(front)
+                } else {
+                    read_front(&self.held[..len])
+                }
+            }
+            None => read_front(&self.held[..len]),
+        }
+    }
+
+    /// Drops the first `len` bytes.
     fn drop_front(&mut self, len: usize)
         requires { len ≤ length self.old }
         ensures { self.new ≡ drop len self.old }
     {
-        self.needs = None;
+        self.front = None;
         let left = self.held.len() - len;
         if left == 0 {
             self.held.clear();
@@ -205,5 +231,15 @@ impl Conversation {
             self.held.rotate_left(len);
             self.held.truncate(left);
         }
+    }
+}
+
+/// Returns how many bytes a message has, if its head was read.
+fn len_of(front: &Option<FrontRead>) -> Option<usize>
+    ensures { result ≡ option_map (λ read. read.len) front.now }
+{
+    match front {
+        Some(front) => Some(front.len()),
+        None => None,
     }
 }

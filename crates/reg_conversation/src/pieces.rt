@@ -11,17 +11,17 @@ use reg_records::Device;
 use std::alloc::Global;
 use std::io::Write;
 
-/// Why what a piece brought wasn't answered.
+/// Why a piece wasn't answered.
 #[derive(Clone, Copy, Debug, PartialEq, Eq)]
 pub enum PieceError {
     /// Memory for the piece was refused. Each request that was whole before it is answered.
     NoMemory,
-    /// The writer failed, or was interrupted too often in a row: never a `ReadFault`.
+    /// The writer failed, or was interrupted too often in a row. Never a `ReadFault`.
     Failed(ServeError),
 }
 
-/// Answers the requests that are whole, one after the other, up to a response that closes the
-/// connection. Says whether it goes on; then what is held is short of a request.
+/// Answers the whole requests one after the other, up to a response that closes the connection.
+/// Returns whether the connection goes on; if so, the bytes left are short of a request.
 pub fn answer_whole<W: Write, D: Desk>(
     alloc: Global,
     paths: &mut Option<Paths>,
@@ -50,8 +50,8 @@ pub fn answer_whole<W: Write, D: Desk>(
     Ok(true)
 }
 
-/// Takes a piece of the text that came, and answers what is whole then. Says whether the connection
-/// goes on.
+/// Adds a piece of the text and answers the requests that are whole then. Returns whether the
+/// connection goes on.
 pub fn take_piece<W: Write, D: Desk>(
     alloc: Global,
     paths: &mut Option<Paths>,
@@ -77,7 +77,7 @@ pub fn take_piece<W: Write, D: Desk>(
     }
 }
 
-/// Answers all that is held, where nothing comes any more.
+/// Answers all that is held at the end of the input.
 pub fn answer_rest<W: Write, D: Desk>(
     alloc: Global,
     paths: &mut Option<Paths>,
@@ -103,8 +103,8 @@ pub fn answer_rest<W: Write, D: Desk>(
     }
 }
 
-/// Answers the requests of a text that comes in these pieces and then ends: the responses are those to
-/// the requests of the whole text, however it is cut.
+/// Answers the requests of a text that comes in these pieces and then ends. The responses are those
+/// to the requests of the whole text, however it is cut.
 pub fn converse_in_pieces<W: Write, D: Desk>(
     alloc: Global,
     pieces: &[&[u8]],

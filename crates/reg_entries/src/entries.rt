@@ -31,8 +31,8 @@ use std::marker::Model;
 /// A place is a subject and a version. Contracts see the map from places to entries, in which each
 /// entry is at its own place.
 ///
-/// What is asked of live entries takes the last soft deletes of subjects: an entry that its subject's
-/// covers is shown as soft, and no entry is touched when that changes.
+/// Questions about live entries are given the last soft deletes of subjects: an entry that its
+/// subject's soft delete covers is shown as soft, and no entry is touched when that changes.
 #[derive(Debug, Drop)]
 pub struct Entries {
     alloc: Global,
@@ -84,7 +84,7 @@ impl Clone for Entries {
 }
 
 impl Entries {
-    /// No entry.
+    /// Makes the map without entries.
     pub fn new(alloc: Global) -> Entries
         ensures { result ≡ finmap.empty }
     {
@@ -99,15 +99,15 @@ impl Entries {
         }
     }
 
-    /// How many entries there are.
+    /// Returns the number of entries.
     pub fn len(&self) -> usize
         ensures { result ≡ finmap.len self.now }
     {
         self.entries.len()
     }
 
-    /// Puts the entry at its place, where it takes the place of what is there. The only error is
-    /// out of memory; all is then as it was.
+    /// Puts the entry at its place, and replaces the one that is there. The only error is out of
+    /// memory; nothing changes then.
     pub fn put(&mut self, entry: Entry) -> Result<(), AllocError>
         ensures put { OnOk result (self.new ≡ finmap.insert self.old (place_of entry) entry) }
         ensures refused { OnErr result (self.new ≡ self.old) }
@@ -115,7 +115,7 @@ impl Entries {
         self.put_stored_entry(StoredEntry::of(entry)?)
     }
 
-    /// The same.
+    /// Puts a stored entry at its place, like `put`.
     fn put_stored_entry(&mut self, entry: StoredEntry) -> Result<(), AllocError>
         ensures put { OnOk result (self.new ≡ finmap.insert self.old (place_of entry) entry) }
         ensures refused { OnErr result (self.new ≡ self.old) }
@@ -165,7 +165,8 @@ impl Entries {
         );
     }
 
-    /// Gives versions of a subject their flags. A flag of a version that isn't there does nothing.
+    /// Sets the soft flags of versions of a subject. A flag of a version without an entry does
+    /// nothing.
     pub fn flag(&mut self, subject: Text, flags: &[Flag])
         ensures flagged { (p : Place) → finmap.get self.new p ≡ option_map (flagged subject flags.now) (finmap.get self.old p) }
         ensures each { (soft : Entry → Bool) → FlagsEach soft flags.now (of_subject (finmap.values self.old) subject) → (p : Place) → finmap.get self.new p ≡ option_map (λ e. if bytes_eq e.subject subject then with_soft (soft e) e else e) (finmap.get self.old p) }
@@ -173,14 +174,14 @@ impl Entries {
         set_flags(&mut self.entries, subject, flags);
     }
 
-    /// The entry at a place.
+    /// Returns the entry at a place.
     pub fn at(&self, place: &(Text, u32)) -> Option<&Entry>
         ensures { option_copied result ≡ finmap.get self.now place.now }
     {
         Some(self.entries.get(place)?.own())
     }
 
-    /// All entries, by place. The only error is out of memory.
+    /// Lists all entries, by place. The only error is out of memory.
     pub fn all(&self) -> Result<Vec<&Entry>, AllocError>
         ensures all { IfOk result (λ found. map (λ e. e.now) found.items ≡ finmap.values self.now) }
         ensures in_order { IfOk result (λ found. IsInOrder (map (λ e. e.now) found.items)) }
@@ -190,7 +191,8 @@ impl Entries {
         Ok(found)
     }
 
-    /// All entries under the last soft deletes, by place. The only error is out of memory.
+    /// Lists all entries as the last soft deletes show them, by place. The only error is out of
+    /// memory.
     pub fn all_shown(&self, deletes: &SoftDeletes) -> Result<Vec<&Entry>, AllocError>
         ensures all { IfOk result (λ found. map (λ e. e.now) found.items ≡ shown_all deletes.now (finmap.values self.now)) }
         ensures in_order { IfOk result (λ found. IsInOrder (map (λ e. e.now) found.items)) }
@@ -200,7 +202,7 @@ impl Entries {
         Ok(found)
     }
 
-    /// The entries of a subject, by version. The only error is out of memory.
+    /// Lists the entries of a subject, by version. The only error is out of memory.
     pub fn of_subject(&self, subject: &str) -> Result<Vec<&Entry>, AllocError>
         ensures all { IfOk result (λ found. map (λ e. e.now) found.items ≡ of_subject (finmap.values self.now) subject.now) }
         ensures in_order { IfOk result (λ found. AreInVersionOrder (map (λ e. e.now) found.items)) }
@@ -210,7 +212,7 @@ impl Entries {
         Ok(found)
     }
 
-    /// The same.
+    /// Lists the stored entries of a subject, by version. The only error is out of memory.
     fn stored_entries_of(&self, subject: &str) -> Result<Vec<&StoredEntry>, AllocError>
         ensures all { IfOk result (λ found. map (λ e. e.now) found.items ≡ of_subject (finmap.values self.now) subject.now) }
         ensures in_order { IfOk result (λ found. AreInVersionOrder (map (λ e. e.now) found.items)) }
@@ -221,8 +223,8 @@ impl Entries {
         Ok(found)
     }
 
-    /// The entries of a subject that count, by version: the live ones, which are those that aren't
-    /// soft, and where `deleted` is true all. The only error is out of memory.
+    /// Lists the entries of a subject that count, by version: all if `deleted` is true, else the
+    /// live ones, which aren't soft. The only error is out of memory.
     pub fn counting(
         &self,
         deletes: &SoftDeletes,
@@ -239,11 +241,11 @@ impl Entries {
         Ok(found)
     }
 
-    /// Of a subject's entries that count the one of greatest version. The only error is out of
-    /// memory.
+    /// Returns the entry of greatest version among a subject's entries that count: all if `deleted`
+    /// is true, else the live ones. The only error is out of memory.
     ///
-    /// It goes back from the greatest version on until an entry counts, so where `deleted` is true
-    /// it looks at one entry.
+    /// It goes back from the greatest version until an entry counts, so if `deleted` is true it
+    /// looks at one entry.
     pub fn latest(
         &self,
         deletes: &SoftDeletes,
@@ -258,7 +260,8 @@ impl Entries {
         Ok(last_counting(&self.entries, &first, &last, delete, deleted))
     }
 
-    /// Of a subject's entries that count the one of that version. The only error is out of memory.
+    /// Returns the entry of that version of a subject if it counts: if `deleted` is true or it is
+    /// live. The only error is out of memory.
     ///
     /// It looks at one entry.
     pub fn of_version(
@@ -282,7 +285,8 @@ impl Entries {
         }
     }
 
-    /// The subjects with an entry that counts, by their bytes. The only error is out of memory.
+    /// Lists the subjects with an entry that counts (any if `deleted` is true, else a live one), by
+    /// their bytes. The only error is out of memory.
     ///
     /// It goes through all entries once.
     pub fn subjects(&self, deletes: &SoftDeletes, deleted: bool) -> Result<Vec<&str>, AllocError>
@@ -292,9 +296,9 @@ impl Entries {
         Ok(found)
     }
 
-    /// Whether a subject, or any one, has a live entry. Takes no memory.
+    /// Returns whether a subject has a live entry; `None` asks about all subjects. Takes no memory.
     ///
-    /// Of a subject it goes back from the greatest version on until an entry is live.
+    /// For a subject, it goes back from the greatest version until an entry is live.
     pub fn has_live(&self, deletes: &SoftDeletes, subject: Option<&str>) -> bool
         ensures { result ≡ has_live (shown_all deletes.now (finmap.values self.now)) (option_map (λ s. s.now) subject.entry) }
     {
@@ -304,7 +308,7 @@ impl Entries {
         }
     }
 
-    /// Whether a subject has a live entry.
+    /// Returns whether a subject has a live entry.
     fn has_live_of(&self, deletes: &SoftDeletes, subject: &str) -> bool
         ensures { result ≡ has_live (shown_all deletes.now (finmap.values self.now)) (Some subject.now) }
     {
@@ -314,9 +318,7 @@ impl Entries {
         }
     }
 
-    /// The entries with an id, soft ones too, by place. The only error is out of memory.
-    ///
-    /// It looks at these entries alone, by the names that the id has, and sorts them.
+    /// Lists the entries with an id, soft ones too, by place. The only error is out of memory.
     pub fn with_id(&self, deletes: &SoftDeletes, id: u32) -> Result<Vec<&Entry>, AllocError>
         ensures { IfOk result (λ found. map (λ e. e.now) found.items ≡ with_id (shown_all deletes.now (finmap.values self.now)) id) }
     {
@@ -325,16 +327,16 @@ impl Entries {
         Ok(found)
     }
 
-    /// The entry that an id names: of the entries with that id, soft ones too, the one of greatest
-    /// offset; of these the one of greatest subject, by its bytes; of these the one of greatest
-    /// version.
+    /// Returns the entry that an id names: of the entries with that id, soft ones too, the one of
+    /// greatest offset; of these the one of greatest subject, by its bytes; of these the one of
+    /// greatest version.
     pub fn named(&self, deletes: &SoftDeletes, id: u32) -> Option<&Entry>
         ensures { option_copied result ≡ named (shown_all deletes.now (finmap.values self.now)) id }
     {
         Some(self.stored_entry_named(id)?.shown(deletes))
     }
 
-    /// The same.
+    /// Returns the stored entry that an id names.
     fn stored_entry_named(&self, id: u32) -> Option<&StoredEntry>
         ensures { option_copied result ≡ named (finmap.values self.now) id }
     {
@@ -347,8 +349,8 @@ impl Entries {
         }
     }
 
-    /// The least id of an entry of that normal text, soft ones too. The only error is out of
-    /// memory.
+    /// Returns the least id of an entry with that normal text, soft ones too. The only error is out
+    /// of memory.
     pub fn id_of(&self, normal: &str) -> Result<Option<u32>, AllocError>
         ensures { IfOk result (λ id. id ≡ id_of (finmap.values self.now) normal.now) }
     {
@@ -363,15 +365,15 @@ impl Entries {
         }
     }
 
-    /// The least id that two entries of different normal texts have, soft ones too. It is kept, so
-    /// no entry is looked at.
+    /// Returns the least id that two entries of different normal texts have, soft ones too. It is
+    /// kept up to date, so no entry is looked at.
     pub fn two_schemas(&self) -> Option<u32>
         ensures { result ≡ two_schemas (finmap.values self.now) }
     {
         self.doubled.first().copied()
     }
 
-    /// The greatest id of an entry, soft ones too.
+    /// Returns the greatest id of an entry, soft ones too.
     pub fn greatest_id(&self) -> Option<u32>
         ensures { result ≡ greatest_id (finmap.values self.now) }
     {
@@ -380,7 +382,7 @@ impl Entries {
         Some(entry.own().id)
     }
 
-    /// The greatest version of a subject's entries, soft ones too.
+    /// Returns the greatest version of a subject's entries, soft ones too.
     pub fn greatest_version(&self, subject: &str) -> Option<u32>
         ensures { result ≡ greatest_version (finmap.values self.now) subject.now }
     {

@@ -1,7 +1,7 @@
 // The entries of a registry.
 use base_text::Text;
 
-/// A version of a subject that stands in the registry.
+/// An entry of a registry: a version of a subject, with its id and its schema.
 #[derive(Debug, Drop, Clone, PartialEq, Eq)]
 pub struct Entry {
     pub subject: Text,
@@ -11,7 +11,7 @@ pub struct Entry {
     pub id: u32,
     /// The schema's text, as the record holds it.
     pub text: Text,
-    /// The schema's normal text: two schemas are the same exactly where these are equal.
+    /// The schema's normal text: two schemas are the same exactly if these are equal.
     pub normal: Text,
     /// The offset of its record, from 0 to 9,223,372,036,854,775,807.
     pub offset: u64,
@@ -19,7 +19,7 @@ pub struct Entry {
     pub soft: bool,
 }
 
-/// Whether a version is soft-deleted.
+/// A version, with whether it is soft-deleted.
 #[derive(Clone, Copy, Debug)]
 pub struct Flag {
     pub version: u32,

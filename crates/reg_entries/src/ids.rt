@@ -13,13 +13,13 @@ use std::alloc::{AllocError, Global};
 use std::cmp::Ordering;
 use std::collections::{BTreeMap, BTreeSet};
 
-/// An id that more than one in so many entries has is looked for among all of them.
+/// An id that more than one in `OFTEN` entries has is looked up among all entries.
 const OFTEN: usize = 16;
 
-/// The entries with an id, by place.
+/// Lists the entries with an id, by place.
 ///
-/// Those of an id that many entries have are found by going through all entries, which stand by place:
-/// that costs less than to find each of them and to sort them.
+/// If many entries have the id, it goes through all entries, which are ordered by place: that costs
+/// less than finding each of them and sorting them.
 pub(crate) fn list_with_id<'a>(
     alloc: Global,
     entries: &'a BTreeMap<At, StoredEntry>,
@@ -38,12 +38,12 @@ pub(crate) fn list_with_id<'a>(
     }
 }
 
-/// Whether more than one in `OFTEN` entries has the id, as far as the names say.
+/// Returns whether more than one in `OFTEN` entries has the id, by its names.
 fn is_often(all: usize, names: &BTreeSet<Name>, id: u32) -> bool {
     names_of(names, id).nth(all / OFTEN).is_some()
 }
 
-/// The entries with an id, by place. This goes through all entries once.
+/// Lists the entries with an id, by place. It goes through all entries once.
 fn list_among_all<'a>(
     alloc: Global,
     entries: &'a BTreeMap<At, StoredEntry>,
@@ -57,7 +57,8 @@ fn list_among_all<'a>(
         .collect(alloc)
 }
 
-/// The same. This goes through the names of the id, and sorts what they name.
+/// Lists the entries with an id, by place. It goes through the names of the id, and sorts the
+/// entries that they name.
 fn list_by_name<'a>(
     alloc: Global,
     entries: &'a BTreeMap<At, StoredEntry>,
@@ -80,7 +81,7 @@ fn list_by_name<'a>(
     Ok(found)
 }
 
-/// How two entries stand by place.
+/// Compares two entries by place.
 fn by_place(one: &StoredEntry, other: &StoredEntry) -> Ordering
     ensures { result ≡ on place_of place_cmp one.now other.now }
 {

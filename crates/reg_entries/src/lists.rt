@@ -130,28 +130,28 @@ pub(crate) fn last_counting<'a>(
         .find(|entry| counts(entry, deleted))
 }
 
-/// Leaves those that count.
+/// Removes the entries that don't count.
 pub(crate) fn keep_counting(found: &mut Vec<&Entry>, deleted: bool)
     ensures { found.new.items ≡ filter (λ e. counts deleted e.now) found.old.items }
 {
     found.retain(|entry| counts(entry, deleted));
 }
 
-/// Whether an entry counts: a live one does, and a soft one where `deleted` is true.
+/// Returns whether an entry counts: a live one does, and a soft one if `deleted` is true.
 pub(crate) fn counts(entry: &Entry, deleted: bool) -> bool
     ensures { result ≡ counts deleted entry.now }
 {
     deleted || !entry.soft
 }
 
-/// Whether an entry counts under the last soft delete of its subject.
+/// Returns whether an entry counts under the last soft delete of its subject.
 fn counts_shown(stored_entry: &StoredEntry, deletes: &SoftDeletes, deleted: bool) -> bool
     ensures { result ≡ counts deleted (shown deletes.now stored_entry.now) }
 {
     deleted || !stored_entry.shown(deletes).soft
 }
 
-/// Whether one of them is live under the last soft deletes. This goes through all entries.
+/// Returns whether an entry is live under the last soft deletes. It goes through all entries.
 pub(crate) fn any_live(entries: &BTreeMap<At, StoredEntry>, deletes: &SoftDeletes) -> bool
     ensures { result ≡ has_live (shown_all deletes.now (values entries.now)) None }
 {
@@ -160,8 +160,9 @@ pub(crate) fn any_live(entries: &BTreeMap<At, StoredEntry>, deletes: &SoftDelete
         .any(|stored_entry| !stored_entry.shown(deletes).soft)
 }
 
-/// Whether the subject of its greatest version's place has an entry that is live under its last
-/// soft delete. This goes back from that version on until an entry is live, or of another subject.
+/// Returns whether the subject of `top`, the place of its greatest version, has an entry that is
+/// live under its last soft delete. It goes back from that version until an entry is live, or of
+/// another subject.
 pub(crate) fn any_live_up_to(
     entries: &BTreeMap<At, StoredEntry>,
     top: &At,
@@ -184,7 +185,7 @@ pub(crate) fn any_live_up_to(
     }
 }
 
-/// Flags the entry at a place, if there is one.
+/// Sets the soft flag of the entry at a place, if there is one.
 pub(crate) fn set_soft(entries: &mut BTreeMap<At, StoredEntry>, place: &At, soft: bool)
     ensures at { (q : Place) → entry_at entries.new q ≡ (if eq_by_cmp place_cmp place.now q then option_map (with_soft soft) (entry_at entries.old q) else entry_at entries.old q) }
     ensures ordered { IsOrdered place_cmp entries.new }
@@ -194,7 +195,7 @@ pub(crate) fn set_soft(entries: &mut BTreeMap<At, StoredEntry>, place: &At, soft
     }
 }
 
-/// Gives versions of a subject their flags.
+/// Sets the soft flags of versions of a subject.
 pub(crate) fn set_flags(entries: &mut BTreeMap<At, StoredEntry>, subject: Text, flags: &[Flag])
     requires ordered { IsOrdered place_cmp entries.old }
     requires placed { ArePlaced entries.old }

@@ -40,7 +40,7 @@ pub(crate) fn mean(
     Ok(())
 }
 
-/// Takes an id and a normal text away unless some schema has both.
+/// Removes an id with a normal text unless some schema has both.
 pub(crate) fn refresh_meaning(
     meanings: &mut BTreeSet<Meaning>,
     doubled: &mut BTreeSet<u32>,
@@ -59,7 +59,7 @@ pub(crate) fn refresh_meaning(
     }
 }
 
-/// Takes the ids and the normal texts of a schema, and of another if there is one, away unless some
+/// Removes the id and the normal text of a schema, and of another if there is one, unless some
 /// schema has both.
 pub(crate) fn refresh_both(
     meanings: &mut BTreeSet<Meaning>,
@@ -79,7 +79,8 @@ pub(crate) fn refresh_both(
     }
 }
 
-/// Whether some schema has the normal text and the id of one, which has the least place.
+/// Returns whether some schema has the normal text and the id of `first`, which has the least
+/// place.
 fn is_meant(schemas: &BTreeSet<Schema>, first: &Schema) -> bool
     requires { first.now.2 ≡ ([], 0) }
     ensures { (result ≡ true) ↔ IsMeant schemas.now (meaning_of first.now) }
@@ -90,7 +91,7 @@ fn is_meant(schemas: &BTreeSet<Schema>, first: &Schema) -> bool
     }
 }
 
-/// Takes an id and a normal text away.
+/// Removes an id with a normal text.
 fn forget_meaning(
     meanings: &mut BTreeSet<Meaning>,
     doubled: &mut BTreeSet<u32>,
@@ -106,7 +107,7 @@ fn forget_meaning(
     refresh_doubled(meanings, doubled, id);
 }
 
-/// Takes an id away from the doubled ones unless it has two texts.
+/// Removes an id from those with two texts unless it has two.
 fn refresh_doubled(meanings: &BTreeSet<Meaning>, doubled: &mut BTreeSet<u32>, id: u32)
     ensures { RefreshesDoubled meanings.now id doubled.old doubled.new }
 {
@@ -115,7 +116,7 @@ fn refresh_doubled(meanings: &BTreeSet<Meaning>, doubled: &mut BTreeSet<u32>, id
     }
 }
 
-/// Whether an id has two texts.
+/// Returns whether an id has two normal texts.
 fn has_two(meanings: &BTreeSet<Meaning>, id: u32) -> bool
     ensures { (result ≡ true) ↔ HasTwo meanings.now id }
 {

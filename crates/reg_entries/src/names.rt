@@ -18,7 +18,7 @@ use std::ops::Bound;
 /// A subject and a version.
 pub(crate) type At = (Text, u32);
 
-/// An id, an offset and a place: in their order the last name of an id is that of the entry which
+/// An id, an offset and a place. In their order, the last name of an id is that of the entry which
 /// the id names.
 pub(crate) type Name = (u64, u64, At);
 
@@ -65,7 +65,7 @@ pub(crate) fn names_of<'a>(names: &'a BTreeSet<Name>, id: u32) -> Range<'a, Name
     names.range((Bound::Included(&first), Bound::Excluded(&above)))
 }
 
-/// Takes the name of an entry away.
+/// Removes the name of an entry.
 pub(crate) fn forget(names: &mut BTreeSet<Name>, entry: StoredEntry)
     ensures { (n : Name) → contains name_cmp names.new n ≡ cond (eq_by_cmp name_cmp (name_of entry) n) false (contains name_cmp names.old n) }
 {
@@ -79,7 +79,7 @@ pub(crate) fn forget(names: &mut BTreeSet<Name>, entry: StoredEntry)
     names.remove(&(u64::from(id), offset, (subject, version)));
 }
 
-/// Takes the name of an entry away, unless the entry that is now at its place has the same.
+/// Removes the name of an entry, unless the entry that is now at its place has the same.
 pub(crate) fn forget_other(names: &mut BTreeSet<Name>, entry: StoredEntry, id: u32, offset: u64)
     ensures { (n : Name) → contains name_cmp names.new n ≡ (contains name_cmp names.old n && (not (eq_by_cmp name_cmp (name_of entry) n) || (entry.id == id && entry.offset == offset))) }
 {
@@ -89,7 +89,7 @@ pub(crate) fn forget_other(names: &mut BTreeSet<Name>, entry: StoredEntry, id: u
     }
 }
 
-/// Writes an entry and its name. An entry that was at its place goes, with its name.
+/// Writes an entry and its name. It replaces the entry at its place, with its name.
 pub(crate) fn write(
     entries: &mut BTreeMap<At, StoredEntry>,
     names: &mut BTreeSet<Name>,

@@ -14,7 +14,7 @@ use base_text::Text;
 use std::alloc::{AllocError, Global};
 use std::collections::{BTreeMap, BTreeSet};
 
-/// A normal text, an id and a place: in their order the first schema of a text has its least id.
+/// A normal text, an id and a place. In their order, the first schema of a text has its least id.
 pub(crate) type Schema = (Text, u32, At);
 
 /// The schema of an entry.
@@ -46,7 +46,7 @@ pub(crate) fn schema_at(
     }
 }
 
-/// Whether the entry at a schema's place has that schema.
+/// Returns whether the entry at a schema's place has that schema.
 fn has_schema(entries: &BTreeMap<At, StoredEntry>, schema: &Schema) -> bool
     ensures { result ≡ is_held entries.now schema.now }
 {
@@ -59,7 +59,7 @@ fn has_schema(entries: &BTreeMap<At, StoredEntry>, schema: &Schema) -> bool
     }
 }
 
-/// Takes the name and the schema of an entry away, and gives the schema.
+/// Removes the name and the schema of an entry, and returns the schema.
 pub(crate) fn unlist(
     names: &mut BTreeSet<Name>,
     schemas: &mut BTreeSet<Schema>,
@@ -85,8 +85,8 @@ pub(crate) fn unlist(
     schema
 }
 
-/// Writes an entry, its name and its schema, which is the new one. An entry that was at its place
-/// goes, with its own, which is the old one.
+/// Writes an entry with its name and its schema, which is `new`. It replaces the entry at its
+/// place, with its name and its schema, which is `old`.
 pub(crate) fn write_all(
     entries: &mut BTreeMap<At, StoredEntry>,
     names: &mut BTreeSet<Name>,
@@ -115,7 +115,7 @@ pub(crate) fn write_all(
     written
 }
 
-/// Takes a schema away unless the entry at its place has it.
+/// Removes a schema unless the entry at its place has it.
 fn refresh(schemas: &mut BTreeSet<Schema>, entries: &BTreeMap<At, StoredEntry>, schema: &Schema)
     ensures { (s : Schema) → contains schema_cmp schemas.new s ≡ (contains schema_cmp schemas.old s && (not (eq_by_cmp schema_cmp schema.now s) || is_held entries.now s)) }
 {
@@ -124,7 +124,7 @@ fn refresh(schemas: &mut BTreeSet<Schema>, entries: &BTreeMap<At, StoredEntry>, 
     }
 }
 
-/// Takes a schema away, if there is one, unless the entry at its place has it.
+/// Removes a schema, if there is one, unless the entry at its place has it.
 fn refresh_any(
     schemas: &mut BTreeSet<Schema>,
     entries: &BTreeMap<At, StoredEntry>,

@@ -14,17 +14,17 @@ pub struct SoftDelete {
     pub version: u32,
 }
 
-/// Of each subject that has one the last soft delete.
+/// The last soft delete of each subject that has one.
 pub type SoftDeletes = BTreeMap<String, SoftDelete>;
 
-/// The last soft delete of a subject.
+/// Returns the last soft delete of a subject.
 pub(crate) fn delete_of(deletes: &SoftDeletes, subject: &str) -> Option<SoftDelete>
     ensures { result ≡ get_by_text deletes.now subject.now }
 {
     deletes.get(subject).copied()
 }
 
-/// Whether a soft delete, if there is one, covers what is at that version and offset.
+/// Returns whether a soft delete, if there is one, covers an entry of that version and offset.
 pub(crate) fn is_covered(delete: Option<SoftDelete>, version: u32, offset: u64) -> bool
     ensures { result ≡ is_covered delete version offset }
 {

@@ -8,8 +8,8 @@ use crate::soft_delete::{SoftDelete, SoftDeletes, delete_of, is_covered};
 use std::alloc::AllocError;
 use std::marker::Model;
 
-/// An entry, and beside it the same entry as a soft one: so either is there to be shown, and a soft
-/// delete of its subject needn't touch it.
+/// An entry, and a copy of it that is flagged as soft: either can be lent, so a soft delete of its
+/// subject needn't change it.
 ///
 /// Contracts see the entry.
 #[derive(Debug, Drop)]
@@ -39,7 +39,7 @@ impl Clone for StoredEntry {
 }
 
 impl StoredEntry {
-    /// An entry as it is stored. Its texts are shared, so it takes no memory of its own.
+    /// Makes the stored form of an entry. Its texts are shared with the copy.
     pub(crate) fn of(own: Entry) -> Result<StoredEntry, AllocError>
         ensures { IfOk result (λ stored_entry. stored_entry ≡ own) }
     {
@@ -55,14 +55,14 @@ impl StoredEntry {
         Ok(StoredEntry { own, soft })
     }
 
-    /// The entry.
+    /// Returns the entry.
     pub(crate) fn own(&self) -> &Entry
         ensures { result.now ≡ self.now }
     {
         &self.own
     }
 
-    /// The entry.
+    /// Gives up the stored form, and returns the entry.
     pub(crate) fn into_own(self) -> Entry
         ensures { result ≡ self }
     {
@@ -70,14 +70,14 @@ impl StoredEntry {
         own
     }
 
-    /// Flags the entry.
+    /// Sets the soft flag of the entry.
     pub(crate) fn set_soft(&mut self, soft: bool)
         ensures { self.new ≡ with_soft soft self.old }
     {
         self.own.soft = soft;
     }
 
-    /// The entry under a soft delete of its subject, if there is one.
+    /// Returns the entry as a soft delete of its subject, if there is one, shows it.
     pub(crate) fn under(&self, delete: Option<SoftDelete>) -> &Entry
         ensures { result.now ≡ under delete self.now }
     {
@@ -88,7 +88,7 @@ impl StoredEntry {
         }
     }
 
-    /// The entry under the last soft delete of its subject.
+    /// Returns the entry as the last soft delete of its subject shows it.
     pub(crate) fn shown(&self, deletes: &SoftDeletes) -> &Entry
         ensures { result.now ≡ shown deletes.now self.now }
     {

@@ -8,8 +8,8 @@ use crate::stored_entry::StoredEntry;
 use std::alloc::{AllocError, Global};
 use std::collections::BTreeMap;
 
-/// Leaves room for the greatest version of a place's subject. Where it has none, the place takes
-/// that room.
+/// Makes room for the greatest version of a place's subject. If the subject has no room yet, the
+/// place fills it.
 pub(crate) fn leave_room(
     alloc: Global,
     tops: &mut BTreeMap<String, At>,
@@ -27,8 +27,8 @@ pub(crate) fn leave_room(
     Ok(())
 }
 
-/// Keeps the greatest version of a place's subject, which has room for it. A subject without an
-/// entry goes, and its room too.
+/// Updates the greatest version of a place's subject, which has room for it. A subject without an
+/// entry is removed.
 pub(crate) fn refresh_top(
     tops: &mut BTreeMap<String, At>,
     entries: &BTreeMap<At, StoredEntry>,
@@ -58,7 +58,7 @@ fn last_version(entries: &BTreeMap<At, StoredEntry>, last: &At) -> Option<u32>
     }
 }
 
-/// Keeps a place for its subject, which has room for it.
+/// Sets the place of its subject's greatest version, if the subject has room for it.
 fn set_top(tops: &mut BTreeMap<String, At>, place: At)
     ensures top { IsSome (get_by_text tops.old place.0) → get_by_text tops.new place.0 ≡ Some place }
     ensures others { (s : List ℕ) → bytes_eq place.0 s ≡ false → get_by_text tops.new s ≡ get_by_text tops.old s }
@@ -68,7 +68,7 @@ fn set_top(tops: &mut BTreeMap<String, At>, place: At)
     }
 }
 
-/// Forgets a subject.
+/// Removes a subject.
 fn forget_top(tops: &mut BTreeMap<String, At>, subject: &str)
     ensures gone { get_by_text tops.new subject.now ≡ None }
     ensures others { (s : List ℕ) → bytes_eq subject.now s ≡ false → get_by_text tops.new s ≡ get_by_text tops.old s }

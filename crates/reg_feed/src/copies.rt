@@ -11,8 +11,8 @@ use crate::stored::{Op, Stored};
 use crossbeam_utils::rule::Protocol;
 use left_right::Absorb;
 
-/// A copy of a feed's list with the value that it folds to. Its rule is that what readers are shown was
-/// published.
+/// A copy of a feed: the value that the list folds to, and the list, which only contracts see. Its
+/// rule is that readers are shown only published lists.
 pub trait Copies<T: Drop, V: Fold<T> + Drop, N: FeedName<T, V>>: Absorb<Op<T, V, N>>
     + Protocol<Self, ()>
     + Drop {

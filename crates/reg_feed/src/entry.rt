@@ -2,10 +2,11 @@
 
 /// A step of a feed.
 pub enum FeedEntry<T> {
-    /// An item was added behind the others.
+    /// An item was appended.
     Added(T),
-    /// The writer offers the first so many items to be published, and has a pen with this key from now on.
+    /// The writer offers the first items, of this number, for publishing, and has a new pen (the
+    /// right to make offers) with this key.
     Turned(u64, u64),
-    /// What was offered is published.
+    /// The offered items are published.
     Published,
 }

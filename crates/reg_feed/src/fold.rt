@@ -11,13 +11,13 @@ pub trait Fold<T> {
     // `FeedReader::read` gives it. To a feed it is any fact at all, so what it shows was published.
     ghost publishes: { Self → List T → Type 0 } = { λ first list. Unit {0} };
 
-    /// Takes in an item. The other value changes nothing of that: where it has taken in the item too, what
-    /// that cost may be spared here. The only error is out of memory; the value is then as it was.
+    /// Takes in an item. If the other value has taken it in too, work may be shared with it; the
+    /// result is the same. The only error is out of memory; the value is then unchanged.
     fn take_item(&mut self, item: &T, other: &Self) -> Result<(), AllocError>
         ensures taken { OnOk result (self.new ≡ applied self.old item.now) }
         ensures refused { OnErr result (self.new ≡ self.old) };
 
-    /// A copy. The only error is out of memory.
+    /// Copies the value. The only error is out of memory.
     fn again(&self) -> Result<Self, AllocError>
         ensures { IfOk result (λ copy. copy ≡ self.now) };
 }

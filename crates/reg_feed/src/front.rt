@@ -1,4 +1,4 @@
-// Fronts of a feed's one list, which its pending items are in too. Readers never get one.
+// Prefixes (fronts) of a feed's one list, pending items included. Readers never get one.
 ghost use Rattle.std.specs.Prelude.{◌≡◌, ◌+◌, ◌^◌, ◌<◌, ◌≤◌, ◌++◌, ◌∷◌, ◌⊎◌, [], length, IfSome, MatchBool};
 ghost use mathlib.Core.List.{IsPrefix};
 
@@ -9,8 +9,8 @@ use logbook::{Offer, Seen as Reached};
 use std::collections::VecDeque;
 use std::marker::{Model, PhantomData};
 
-/// A front of the list of all items, published or pending. Contracts see it as its items; it holds none
-/// of them.
+/// A *front*: a prefix of the list of all items, published or pending. Contracts see its items; it
+/// stores none of them.
 #[derive(Drop)]
 pub struct Front<T, V: Fold<T>, N: FeedName<T, V>> {
     pub(crate) count: u64,
@@ -30,7 +30,7 @@ impl<T, V: Fold<T>, N: FeedName<T, V>> Model for Front<T, V, N> {
 }
 
 impl<T, V: Fold<T>, N: FeedName<T, V>> Front<T, V, N> {
-    /// The front that has no item.
+    /// Makes the empty prefix.
     pub(crate) fn of_none(reached: Reached<FeedEntry<T>, u64, Law>) -> Front<T, V, N>
         requires { (reached.book ≡ N.book) × (reached.log ≡ []) }
         ensures { result ≡ [] }
@@ -42,14 +42,14 @@ impl<T, V: Fold<T>, N: FeedName<T, V>> Front<T, V, N> {
         }
     }
 
-    /// How many items it has.
+    /// Returns how many items it has.
     pub fn len(&self) -> u64
         ensures { result ≡ length self.now }
     {
         self.count
     }
 
-    /// A copy.
+    /// Copies it.
     pub fn again(&self) -> Front<T, V, N>
         ensures { result ≡ self.now }
     {
@@ -60,7 +60,8 @@ impl<T, V: Fold<T>, N: FeedName<T, V>> Front<T, V, N> {
         }
     }
 
-    /// Whether the other begins with this one. If not, this one begins with the other.
+    /// Returns whether this one is a prefix of the other. If not, the other is a shorter prefix of
+    /// this one.
     pub fn begins(&self, other: &Front<T, V, N>) -> bool
         ensures { MatchBool result (IsPrefix self.now other.now) ((length other.now < length self.now) × IsPrefix other.now self.now) }
     {
@@ -72,7 +73,7 @@ impl<T, V: Fold<T>, N: FeedName<T, V>> Front<T, V, N> {
         true
     }
 
-    /// The longer of two fronts, which begins with the other.
+    /// Returns the longer of the two, of which the other is a prefix.
     pub fn longer(&self, other: &Front<T, V, N>) -> Front<T, V, N>
         ensures one { (result ≡ self.now) ⊎ (result ≡ other.now) }
         ensures this { IsPrefix self.now result }
@@ -85,7 +86,8 @@ impl<T, V: Fold<T>, N: FeedName<T, V>> Front<T, V, N> {
         }
     }
 
-    /// Adds an item behind this front, where that is the whole list. With one writer it always is.
+    /// Appends an item if this is the whole list, and returns whether it did. With one writer it
+    /// always is.
     pub(crate) fn add(&mut self, history: &History<T, V, N>, item: &T) -> bool
         ensures { MatchBool result (self.new ≡ self.old ++ item.now ∷ []) (self.new ≡ self.old) }
     {
@@ -109,7 +111,8 @@ impl<T, V: Fold<T>, N: FeedName<T, V>> Front<T, V, N> {
         true
     }
 
-    /// This front with the items behind it, where it is the whole list. With one writer it always is.
+    /// Returns this prefix with the items appended; `None` if it isn't the whole list. With one
+    /// writer it always is.
     pub(crate) fn with_all(
         &self,
         history: &History<T, V, N>,

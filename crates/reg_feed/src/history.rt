@@ -9,7 +9,7 @@ use crate::front::Front;
 use logbook::{Gain, Offer, Pen, Plain, Play, Rule, Seen as Reached, Start, Word};
 use std::marker::PhantomData;
 
-/// What holds of the two words: the number of items, and the gate.
+/// The invariant of the two words: the number of items, and the gate.
 pub struct Law;
 
 impl<T> Rule<FeedEntry<T>, u64> for Law {
@@ -93,7 +93,7 @@ impl<T> Play<FeedEntry<T>, u64> for Look {
     ghost then = { Looks };
 }
 
-/// A step that gives up the newest pen for another, with an offer of so many items.
+/// A step that gives up the newest pen for another one, with an offer of the first items.
 pub struct TurnPen;
 
 impl<T> Play<FeedEntry<T>, u64> for TurnPen {
@@ -120,7 +120,8 @@ impl<T> Play<FeedEntry<T>, u64> for Begin {
     ghost then = { Begins };
 }
 
-/// Which feed it is, and what its list begins to be folded from. Each call of a program picks both.
+/// The name of a feed: which feed it is, and the first value of its fold. Each call of a program
+/// picks both.
 pub trait FeedName<T, V: Fold<T>> {
     ghost use Rattle.logbook.specs.Pages.{Book};
 
@@ -141,6 +142,7 @@ pub struct Unnamed<T> {
 }
 
 impl<T> Unnamed<T> {
+    /// Makes a list without items.
     pub fn new() -> Unnamed<T> {
         let (reached, mut first, mut second) = Reached::open(Start::alone(), 0, 0);
         Unnamed {
@@ -150,7 +152,7 @@ impl<T> Unnamed<T> {
         }
     }
 
-    /// The two words, under a name, and the front that has no item.
+    /// Gives the list a name, and returns its two words and its empty prefix.
     pub(crate) fn named<V: Fold<T>, N: FeedName<T, V>>(self) -> (History<T, V, N>, Front<T, V, N>)
         requires { self.reached.book ≡ N.book }
         ensures { result.1 ≡ [] }
@@ -171,7 +173,7 @@ impl<T> Unnamed<T> {
     }
 }
 
-/// The words of a history.
+/// The two words of a history: the number of items, and the gate.
 #[derive(Drop)]
 pub struct History<T, V: Fold<T>, N: FeedName<T, V>> {
     pub(crate) head: Word<FeedEntry<T>, u64, Law>,
@@ -182,7 +184,7 @@ pub struct History<T, V: Fold<T>, N: FeedName<T, V>> {
 }
 
 impl<T, V: Fold<T>, N: FeedName<T, V>> History<T, V, N> {
-    /// A pen that nobody had.
+    /// Makes a pen that nobody had. A *pen* is the right to make offers.
     pub(crate) fn pen(&self, reached: &Reached<FeedEntry<T>, u64, Law>) -> Pen
         requires { reached.now.book ≡ N.book }
         ensures { (result.book ≡ N.book) × (result.nib.right ≡ may_write) }

@@ -1,4 +1,4 @@
-// The one right to publish: a pen that the writer alone has, so what it knows to be published is all that is.
+// The one right to publish: a pen that only the writer has. So it knows all that is published.
 ghost use Rattle.std.specs.Prelude.{◌≡◌, ◌<◌, [], length, IfSome, MatchBool};
 ghost use mathlib.Core.List.{IsPrefix};
 
@@ -10,7 +10,8 @@ use crate::shown::Shown;
 use logbook::{Offer, Pen, Seen as Reached};
 use std::marker::{Model, PhantomData};
 
-/// The right to publish. Contracts see all that was published, and all that may be at any moment.
+/// The right to publish, which only the writer has. Contracts see the published list, and the list
+/// that may be published at any moment.
 #[derive(Drop)]
 pub struct Right<T, V: Fold<T>, N: FeedName<T, V>> {
     count: u64,
@@ -32,7 +33,7 @@ impl<T, V: Fold<T>, N: FeedName<T, V>> Model for Right<T, V, N> {
 }
 
 impl<T, V: Fold<T>, N: FeedName<T, V>> Right<T, V, N> {
-    /// The right to a history that nobody published in. One call has it.
+    /// Makes the right of a history in which nothing is published. Only one call gets it.
     pub(crate) fn new(history: &History<T, V, N>, origin: &Front<T, V, N>) -> Option<Right<T, V, N>>
         ensures { IfSome result (λ r. r ≡ ([], [])) }
     {
@@ -59,7 +60,7 @@ impl<T, V: Fold<T>, N: FeedName<T, V>> Right<T, V, N> {
         })
     }
 
-    /// Offers a longer front: from now on it may be published at any moment.
+    /// Offers a longer prefix: from now on it may be published at any moment.
     pub(crate) fn offer(&mut self, history: &History<T, V, N>, whole: &Front<T, V, N>)
         requires shut { self.old.0 ≡ self.old.1 }
         requires longer { length self.old.0 < length whole.now }
@@ -85,7 +86,7 @@ impl<T, V: Fold<T>, N: FeedName<T, V>> Right<T, V, N> {
         self.pen = pen;
     }
 
-    /// Takes the offer back. If it doesn't, what was offered is published.
+    /// Takes the offer back, and returns whether it did. If not, the offered prefix is published.
     pub(crate) fn take_back(&mut self, history: &History<T, V, N>, whole: &Front<T, V, N>) -> bool
         requires offered { self.old.1 ≡ whole.now }
         requires open { length self.old.0 < length whole.now }
@@ -115,7 +116,7 @@ impl<T, V: Fold<T>, N: FeedName<T, V>> Right<T, V, N> {
         true
     }
 
-    /// Publishes what is offered, if it isn't published yet.
+    /// Publishes the offered prefix if it isn't published yet.
     pub(crate) fn publish(&mut self, history: &History<T, V, N>, whole: &Front<T, V, N>)
         requires offered { self.old.1 ≡ whole.now }
         requires open { length self.old.0 < length whole.now }
@@ -138,7 +139,7 @@ impl<T, V: Fold<T>, N: FeedName<T, V>> Right<T, V, N> {
         self.count = whole.count;
     }
 
-    /// Whatever was published is in what this right knows to be published.
+    /// States that a published list is a prefix of what this right knows to be published.
     pub(crate) fn covers(&mut self, history: &History<T, V, N>, shown: &Shown<T, V, N>)
         requires shut { self.old.0 ≡ self.old.1 }
         ensures same { self.new ≡ self.old }
@@ -157,7 +158,7 @@ impl<T, V: Fold<T>, N: FeedName<T, V>> Right<T, V, N> {
         self.reached = reached;
     }
 
-    /// What is published.
+    /// Returns the published list.
     pub(crate) fn shown(&self) -> Shown<T, V, N>
         ensures { result ≡ self.now.0 }
     {

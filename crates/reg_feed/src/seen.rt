@@ -8,7 +8,7 @@ use crate::history::FeedName;
 use crate::shown::Shown;
 use std::marker::Model;
 
-/// A list that a feed published. Contracts see it as its items; it holds none of them.
+/// A list that a feed published. Contracts see its items; it stores none of them.
 #[derive(Drop)]
 pub struct Seen<T, V: Fold<T>, N: FeedName<T, V>> {
     shown: Shown<T, V, N>,
@@ -39,21 +39,21 @@ impl<T, V: Fold<T>, N: FeedName<T, V>> Seen<T, V, N> {
         &self.shown
     }
 
-    /// It was published. This costs nothing at run time.
+    /// States that it was published. Costs nothing at run time.
     pub fn was_published(&self)
         ensures { WasPublished (V.publishes N.first) self.now }
     {
         let _shown = &self.shown;
     }
 
-    /// How many items it has.
+    /// Returns how many items it has.
     pub fn len(&self) -> u64
         ensures { result ≡ length self.now }
     {
         self.shown.len()
     }
 
-    /// A copy.
+    /// Copies it.
     pub fn again(&self) -> Seen<T, V, N>
         ensures { result ≡ self.now }
     {
@@ -62,14 +62,15 @@ impl<T, V: Fold<T>, N: FeedName<T, V>> Seen<T, V, N> {
         }
     }
 
-    /// Whether the other begins with this one. If not, this one begins with the other.
+    /// Returns whether this list is a prefix of the other. If not, the other is a shorter prefix of
+    /// this one.
     pub fn begins(&self, other: &Seen<T, V, N>) -> bool
         ensures { MatchBool result (IsPrefix self.now other.now) ((length other.now < length self.now) × IsPrefix other.now self.now) }
     {
         self.shown.begins(&other.shown)
     }
 
-    /// The longer of two fronts, which begins with the other.
+    /// Returns the longer of the two, of which the other is a prefix.
     pub fn longer(&self, other: &Seen<T, V, N>) -> Seen<T, V, N>
         ensures one { (result ≡ self.now) ⊎ (result ≡ other.now) }
         ensures this { IsPrefix self.now result }

@@ -9,7 +9,7 @@ use left_right::writer::Writer;
 use std::alloc::{AllocError, Global};
 use std::sync::Wait;
 
-/// The writer of two copies. Its drop waits for readers.
+/// The writer of the two copies. Its drop waits for readers.
 pub struct Shelf<S: Absorb<O> + Protocol<S, ()> + Drop, O: Drop, R: Wait + Drop> {
     writer: Writer<S, O, (), S>,
     rt: R,
@@ -32,14 +32,14 @@ impl<S: Absorb<O> + Protocol<S, ()> + Drop, O: Drop, R: Wait + Drop> Shelf<S, O,
         Ok(Shelf { writer, rt })
     }
 
-    /// What readers take now.
+    /// Returns the copy that readers are shown.
     pub(crate) fn published(&self) -> &S
         ensures { result.now ≡ self.now.writer.desk.shown.value }
     {
         self.writer.published()
     }
 
-    /// The operation comes back where there is no memory.
+    /// Appends an operation to the pending ones. If memory is refused, it is given back.
     pub(crate) fn append(&mut self, op: O) -> Result<(), O>
         ensures published { self.new.writer.desk.shown.value ≡ self.old.writer.desk.shown.value }
         ensures pending { MatchResult result
@@ -49,7 +49,8 @@ impl<S: Absorb<O> + Protocol<S, ()> + Drop, O: Drop, R: Wait + Drop> Shelf<S, O,
         self.writer.append(op)
     }
 
-    /// Shows readers each operation, where the rule then holds. At `Err` they see what they saw.
+    /// Shows readers all pending operations. The only error is out of memory; readers then see what
+    /// they saw.
     pub(crate) fn publish(&mut self) -> Result<(), AllocError>
         requires { (next : S) (views : List (Unit {0}))
             → S.state next ≡ fold S.applied (S.state self.old.writer.desk.shown.value) (drop self.old.writer.behind self.old.writer.log.items)
@@ -63,7 +64,7 @@ impl<S: Absorb<O> + Protocol<S, ()> + Drop, O: Drop, R: Wait + Drop> Shelf<S, O,
         })
     }
 
-    /// Shows readers each operation, as soon as there is memory.
+    /// Shows readers all pending operations, waiting for memory if needed.
     pub(crate) fn publish_at_last(&mut self)
         requires { (next : S) (views : List (Unit {0}))
             → S.state next ≡ fold S.applied (S.state self.old.writer.desk.shown.value) (drop self.old.writer.behind self.old.writer.log.items)
@@ -81,7 +82,7 @@ impl<S: Absorb<O> + Protocol<S, ()> + Drop, O: Drop, R: Wait + Drop> Shelf<S, O,
         unreachable!()
     }
 
-    /// `Err` where each place for a reader is found in use.
+    /// Makes a reader. Fails if each place for one is found in use.
     pub(crate) fn reader(&self) -> Result<Reader<S, (), S>, AllocError>
         requires { (x : S) (views more : List (Unit {0})) → S.holds x views → S.holds x more }
     {

@@ -10,7 +10,7 @@ use crate::history::{FeedName, History, Law, Nothing, Publish};
 use logbook::{Offer, Seen as Reached};
 use std::marker::{Model, PhantomData};
 
-/// All that was published by some time. Contracts see it as its items; it holds none of them.
+/// The list that was published by some time. Contracts see its items; it stores none of them.
 #[derive(Drop)]
 pub struct Shown<T, V: Fold<T>, N: FeedName<T, V>> {
     pub(crate) count: u64,
@@ -41,7 +41,8 @@ impl<T, V: Fold<T>, N: FeedName<T, V>> Shown<T, V, N> {
         }
     }
 
-    /// What is published with this front, if it is.
+    /// Publishes this prefix if just that is offered, and returns it as published; `None` if it
+    /// isn't published.
     pub(crate) fn with(history: &History<T, V, N>, front: &Front<T, V, N>) -> Option<Shown<T, V, N>>
         ensures { IfSome result (λ s. s ≡ front.now) }
     {
@@ -69,21 +70,22 @@ impl<T, V: Fold<T>, N: FeedName<T, V>> Shown<T, V, N> {
         None
     }
 
-    /// How many items it has.
+    /// Returns how many items it has.
     pub(crate) fn len(&self) -> u64
         ensures { result ≡ length self.now }
     {
         self.count
     }
 
-    /// A copy.
+    /// Copies it.
     pub(crate) fn again(&self) -> Shown<T, V, N>
         ensures { result ≡ self.now }
     {
         Shown::of(self.count, &self.reached)
     }
 
-    /// Whether the other begins with this one. If not, this one begins with the other.
+    /// Returns whether this list is a prefix of the other. If not, the other is a shorter prefix of
+    /// this one.
     pub(crate) fn begins(&self, other: &Shown<T, V, N>) -> bool
         ensures { MatchBool result (IsPrefix self.now other.now) ((length other.now < length self.now) × IsPrefix other.now self.now) }
     {
@@ -95,7 +97,7 @@ impl<T, V: Fold<T>, N: FeedName<T, V>> Shown<T, V, N> {
         true
     }
 
-    /// Whether it is this front.
+    /// Returns whether it is this prefix.
     pub(crate) fn is(&self, front: &Front<T, V, N>) -> bool
         ensures { MatchBool result (self.now ≡ front.now) ⊤ }
     {

@@ -1,5 +1,5 @@
-// What each of the two copies holds: the value that the list folds to, and the front that it is.
-// The items themselves stand in proofs alone.
+// What each of the two copies holds: the value that the list folds to, and which prefix it is.
+// Only contracts see the items.
 ghost use Rattle.std.specs.Prelude.{◌≡◌, ◌++◌, ◌∷◌, [], List, OnErr, OnOk, fold};
 ghost use Rattle.reg_feed.specs.Growing.{grown};
 
@@ -13,14 +13,15 @@ use std::alloc::AllocError;
 use std::marker::Model;
 use std::sync::Arc;
 
-/// What comes with a front: its last item, or what all of it folds to.
+/// What an operation brings: the last item of a prefix, or the value that the prefix folds to.
 #[derive(Drop)]
 pub enum Brought<T, V> {
     Item(T),
     Value(V),
 }
 
-/// A front, with what it brings to a copy. Contracts see the front.
+/// An operation on a copy: a prefix of the list, with its last item or its value. Contracts see the
+/// prefix.
 #[derive(Drop)]
 pub struct Op<T, V: Fold<T>, N: FeedName<T, V>> {
     brought: Brought<T, V>,
@@ -38,7 +39,7 @@ impl<T, V: Fold<T>, N: FeedName<T, V>> Model for Op<T, V, N> {
     ghost invariant = { λ o. Brings V.applied N.first o.brought o.front };
 }
 
-/// The value that a list folds to, and the front that the list is. Contracts see the list.
+/// The value that a list folds to, and which prefix the list is. Contracts see the list.
 #[derive(Drop)]
 pub struct Stored<T, V: Fold<T>, N: FeedName<T, V>> {
     value: V,
@@ -114,7 +115,7 @@ impl<T, V: Fold<T>, N: FeedName<T, V>> Protocol<Stored<T, V, N>, ()> for Stored<
 }
 
 impl<T, V: Fold<T>, N: FeedName<T, V>> Op<T, V, N> {
-    /// A front with its last item.
+    /// Makes the operation of a prefix with its last item.
     pub(crate) fn of_item(item: T, front: Front<T, V, N>) -> Op<T, V, N>
         requires ends { (l : List T) × (front ≡ l ++ item ∷ []) }
         ensures { result ≡ front }
@@ -125,7 +126,7 @@ impl<T, V: Fold<T>, N: FeedName<T, V>> Op<T, V, N> {
         }
     }
 
-    /// A front with what it folds to.
+    /// Makes the operation of a prefix with the value that it folds to.
     pub(crate) fn of_value(value: V, front: Front<T, V, N>) -> Op<T, V, N>
         requires folds { value ≡ fold V.applied N.first front }
         ensures { result ≡ front }
@@ -171,7 +172,8 @@ impl<T, V: Fold<T>, N: FeedName<T, V>> Stored<T, V, N> {
         &self.shown
     }
 
-    /// Publishes the front where just that is offered. Of another one it knows what the other copy knows.
+    /// Publishes the prefix if just that is offered. If it isn't, takes over what the other copy
+    /// knows to be published.
     fn note(&mut self, other: &Stored<T, V, N>)
         ensures { self.new ≡ self.old }
     {
@@ -183,9 +185,9 @@ impl<T, V: Fold<T>, N: FeedName<T, V>> Stored<T, V, N> {
 }
 
 impl<T: Drop, V: Fold<T> + Drop, N: FeedName<T, V>> Stored<T, V, N> {
-    /// Takes in the last item of a front that is longer by one, and so begins with this list. A front that is
-    /// no longer changes nothing, and one that lacks more is refused; the one writer hands in neither. The
-    /// other value may have taken in the item too.
+    /// Takes in the last item of a prefix that is longer by one. A prefix that is no longer changes
+    /// nothing, and one that is longer by more is refused; the writer passes neither. The other
+    /// value may have taken in the item too.
     fn take(&mut self, item: &T, front: &Front<T, V, N>, other: &V) -> Result<(), AllocError>
         requires { (l : List T) × (front.now ≡ l ++ item.now ∷ []) }
         ensures taken { OnOk result (self.new ≡ grown self.old front.now) }
@@ -203,7 +205,7 @@ impl<T: Drop, V: Fold<T> + Drop, N: FeedName<T, V>> Stored<T, V, N> {
         Ok(())
     }
 
-    /// Becomes a longer list, with what that folds to. A front that is no longer changes nothing.
+    /// Becomes a longer list with its value. A prefix that is no longer changes nothing.
     fn put(&mut self, value: V, front: Front<T, V, N>)
         requires folds { value ≡ fold V.applied N.first front }
         ensures { self.new ≡ grown self.old front }

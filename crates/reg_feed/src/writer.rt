@@ -20,7 +20,7 @@ use std::fmt;
 use std::marker::Model;
 use std::sync::{Arc, Wait};
 
-/// No reader can be made: each place for one is in use.
+/// No reader can be made, because each place for one is in use.
 #[derive(Clone, Copy, Debug, PartialEq, Eq)]
 pub struct NoPlace;
 
@@ -72,7 +72,8 @@ impl<T: Drop, V: Fold<T> + Drop, N: FeedName<T, V>, S: Copies<T, V, N>, R: Wait 
     ghost invariant = { λ w. (w.origin ≡ []) × (w.right ≡ (S.list w.shelf.writer.desk.shown.value, S.list w.shelf.writer.desk.shown.value)) × WasPublished (V.publishes N.first) (S.list w.shelf.writer.desk.shown.value) × GrowsTo (S.list w.shelf.writer.desk.shown.value) (drop w.shelf.writer.behind w.shelf.writer.log.items ++ option_to_list w.next) w.whole };
 }
 
-/// A feed whose list has no item, with places for so many readers. The only error is out of memory.
+/// Makes a feed whose list is empty, with places for `readers` readers, 1 to 2^32 - 1. The only
+/// error is out of memory.
 pub fn feed<T: Drop, V: Fold<T> + Drop, N: FeedName<T, V>, R: Wait + Drop>(
     rt: R,
     alloc: Global,
@@ -103,8 +104,8 @@ pub fn feed<T: Drop, V: Fold<T> + Drop, N: FeedName<T, V>, R: Wait + Drop>(
     })
 }
 
-/// Brings an item into the log of the copies, if there is one. The only error is out of memory; all
-/// is then as it was.
+/// Appends the operation, if there is one, to the log of the copies. The only error is out of
+/// memory; nothing is changed then.
 fn hand_over<T: Drop, V: Fold<T> + Drop, N: FeedName<T, V>, S: Copies<T, V, N>, R: Wait + Drop>(
     shelf: &mut Shelf<S, Op<T, V, N>, R>,
     next: &mut Option<Op<T, V, N>>,
@@ -123,7 +124,7 @@ fn hand_over<T: Drop, V: Fold<T> + Drop, N: FeedName<T, V>, S: Copies<T, V, N>, 
     Ok(())
 }
 
-/// Shows readers what is in the log of the copies.
+/// Shows readers what is in the log of the copies. The only error is out of memory.
 fn show<T: Drop, V: Fold<T> + Drop, N: FeedName<T, V>, S: Copies<T, V, N>, R: Wait + Drop>(
     shelf: &mut Shelf<S, Op<T, V, N>, R>,
 ) -> Result<(), AllocError>
@@ -136,7 +137,7 @@ fn show<T: Drop, V: Fold<T> + Drop, N: FeedName<T, V>, S: Copies<T, V, N>, R: Wa
     shelf.publish()
 }
 
-/// Shows readers what is in the log of the copies, as soon as there is memory.
+/// Shows readers what is in the log of the copies, waiting for memory if needed.
 fn show_at_last<T: Drop, V: Fold<T> + Drop, N: FeedName<T, V>, S: Copies<T, V, N>, R: Wait + Drop>(
     shelf: &mut Shelf<S, Op<T, V, N>, R>,
 )
@@ -155,8 +156,8 @@ impl<T: Drop, V: Fold<T> + Drop, N: FeedName<T, V>, S: Copies<T, V, N>, R: Wait 
     S,
     R,
 > {
-    /// Adds an item to the pending ones. It comes back where memory is refused; all is then as it
-    /// was.
+    /// Appends an item to the pending ones. If memory is refused, the item is given back and
+    /// nothing is changed.
     pub fn append(&mut self, item: T) -> Result<(), T>
         ensures published { self.new.0 ≡ self.old.0 }
         ensures pending { MatchResult result (λ _. self.new.1 ≡ self.old.1 ++ item ∷ []) (λ x. (x ≡ item) × (self.new.1 ≡ self.old.1)) }
@@ -171,8 +172,9 @@ impl<T: Drop, V: Fold<T> + Drop, N: FeedName<T, V>, S: Copies<T, V, N>, R: Wait 
         Ok(())
     }
 
-    /// Adds items to the pending ones, with what the whole list then folds to: both copies get that value, and
-    /// take in no item. The only error is out of memory; all is then as it was.
+    /// Appends items to the pending ones, with the value that the whole list then folds to. Both
+    /// copies get that value instead of taking in the items. The only error is out of memory;
+    /// nothing is changed then.
     pub fn append_all(&mut self, items: VecDeque<T>, value: V) -> Result<(), AllocError>
         requires folds { value ≡ fold V.applied N.first (self.old.0 ++ (self.old.1 ++ items.items)) }
         ensures published { self.new.0 ≡ self.old.0 }
@@ -188,9 +190,9 @@ impl<T: Drop, V: Fold<T> + Drop, N: FeedName<T, V>, S: Copies<T, V, N>, R: Wait 
         Ok(())
     }
 
-    /// Publishes the pending items, all at once: no reader is shown them before this call, nor some of
-    /// them alone. It may wait for readers of an older list. The only error is out of memory; the items
-    /// then stay pending.
+    /// Publishes all pending items at once: no reader sees any of them before, or only some of
+    /// them. May wait for readers of an older list. The only error is out of memory; the items then
+    /// stay pending.
     pub fn publish(&mut self) -> Result<(), AllocError>
         requires may { V.publishes N.first (self.old.0 ++ self.old.1) }
         ensures published { OnOk result (self.new ≡ (self.old.0 ++ self.old.1, [])) }
@@ -213,8 +215,8 @@ impl<T: Drop, V: Fold<T> + Drop, N: FeedName<T, V>, S: Copies<T, V, N>, R: Wait 
         Ok(())
     }
 
-    /// Whoever saw or learnt of a list saw what is published here, or a beginning of it. The clauses of this
-    /// writer say when that grows.
+    /// States that a list that was seen or learnt of is a prefix of the published list. Changes
+    /// neither the published list nor the pending items.
     pub fn covers(&mut self, seen: &Seen<T, V, N>)
         ensures begins { IsPrefix seen.now self.old.0 }
         ensures same { self.new ≡ self.old }
@@ -222,28 +224,29 @@ impl<T: Drop, V: Fold<T> + Drop, N: FeedName<T, V>, S: Copies<T, V, N>, R: Wait 
         self.right.covers(&self.history, seen.shown());
     }
 
-    /// The front that is the whole published list.
+    /// Returns the whole published list.
     pub fn tell(&self) -> Seen<T, V, N>
         ensures { result ≡ self.now.0 }
     {
         Seen::of(self.right.shown())
     }
 
-    /// What the published list folds to.
+    /// Returns the value that the published list folds to.
     pub fn value(&self) -> &V
         ensures { result.now ≡ fold V.applied N.first self.now.0 }
     {
         self.shelf.published().stored().value()
     }
 
-    /// Whether an item is pending.
+    /// Returns whether an item is pending.
     pub fn has_pending(&self) -> bool
         ensures { MatchBool result (0 < length self.now.1) (self.now.1 ≡ []) }
     {
         self.shelf.published().stored().front().len() < self.whole.len()
     }
 
-    /// A reader that has seen nothing. It may be refused at any call.
+    /// Makes a reader that has seen no item. Fails if each place for a reader is found in use; no
+    /// clause says when that is.
     pub fn reader(&mut self) -> Result<FeedReader<T, V, N, S>, NoPlace>
         ensures new { IfOk result (λ r. r ≡ []) }
         ensures same { self.new ≡ self.old }

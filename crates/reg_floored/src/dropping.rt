@@ -10,7 +10,7 @@ use reg_records::Record;
 use reg_set::{RecordSet, records_are_ordered};
 use std::alloc::AllocError;
 
-/// What stays of a set without those records. The only error is out of memory.
+/// Returns the set without those records. The only error is out of memory.
 pub(crate) fn without(set: &RecordSet, dropped: &[Record]) -> Result<RecordSet, AllocError>
     ensures { IfOk result (λ left. left ≡ without set.now dropped.now) }
 {
@@ -38,8 +38,8 @@ fn take_unless_gone(
     Ok(())
 }
 
-/// Whether the records may leave a set of which that is left without them, and which is to have that
-/// floor.
+/// Returns whether the records may be dropped from a set with that floor; `left` is the set without
+/// them.
 pub(crate) fn may_leave(floor: u64, set: &RecordSet, left: &RecordSet, dropped: &[Record]) -> bool
     requires { left.now ≡ without set.now dropped.now }
     ensures { result ≡ may_leave floor set.now dropped.now }
@@ -47,21 +47,21 @@ pub(crate) fn may_leave(floor: u64, set: &RecordSet, left: &RecordSet, dropped: 
     dropped.iter().all(|given| may_go(floor, set, left, given))
 }
 
-/// Whether the record is in the set, and isn't the last of its key or is gone.
+/// Returns whether the record is in the set, and isn't the last of its key or is gone.
 fn may_go(floor: u64, set: &RecordSet, left: &RecordSet, given: &Record) -> bool
     ensures { result ≡ (contains set.now given.now && (not (is_last set.now given.now) || is_gone floor left.now given.now)) }
 {
     set.contains(given) && (!is_last(set, given) || is_gone(floor, left, given))
 }
 
-/// Whether the record deletes its key below the floor, and none of its key is left.
+/// Returns whether the record is a tombstone below the floor, and no record of its key is left.
 pub fn is_gone(floor: u64, left: &RecordSet, given: &Record) -> bool
     ensures { result ≡ is_gone floor left.now given.now }
 {
     deletes_below(given, floor) && left.last(&given.key).is_none()
 }
 
-/// Whether the record is the last of its key.
+/// Returns whether the record is the last of its key.
 fn is_last(set: &RecordSet, given: &Record) -> bool
     ensures { result ≡ is_last set.now given.now }
 {

@@ -2,10 +2,10 @@
 use std::alloc::AllocError;
 use thiserror::Error;
 
-/// Why two sets weren't merged.
+/// An error of merging two sets.
 #[derive(Clone, Copy, Debug, PartialEq, Eq, Error)]
 pub enum MergeError {
-    /// The sets have these floors.
+    /// The sets have these different floors.
     #[error("the floors differ: {mine} and {other}")]
     FloorsDiffer { mine: u64, other: u64 },
     #[error("out of memory")]
@@ -23,7 +23,7 @@ impl From<AllocError> for MergeError {
     }
 }
 
-/// Why a set didn't take on a floor.
+/// An error of raising the floor of a set.
 #[derive(Clone, Copy, Debug, PartialEq, Eq, Error)]
 pub enum FloorError {
     /// The floor is lower than the set's own, which is this one.

@@ -16,10 +16,11 @@ use reg_set::{RecordSet, TakeOutcome, is_compaction_below};
 use std::alloc::{AllocError, Global};
 use std::marker::Model;
 
-/// A finite set of records, and a floor: an offset below which deletes may have been forgotten.
+/// A finite set of records with a floor: an offset below which tombstones (records without a value)
+/// may have been dropped.
 ///
-/// A key whose last record has no value may be missing as a whole where that record stood below the
-/// floor. The floor is 0 at first, and never falls.
+/// A key whose last record is a tombstone below the floor may be missing as a whole. The floor is 0
+/// at first, and never falls.
 #[derive(Debug, Drop)]
 pub struct KeptSet {
     set: RecordSet,
@@ -48,7 +49,7 @@ impl Clone for KeptSet {
 }
 
 impl KeptSet {
-    /// The empty set, with the floor 0.
+    /// Makes the empty set, with the floor 0.
     pub fn new(alloc: Global) -> KeptSet
         ensures { result ≡ record { records = set.empty; floor = 0 } }
     {
@@ -58,7 +59,8 @@ impl KeptSet {
         }
     }
 
-    /// Those records, with that floor. It isn't seen whether deletes below it were forgotten.
+    /// Makes a set of those records with that floor. It isn't checked whether tombstones below it
+    /// were dropped.
     pub fn of(records: RecordSet, floor: u64) -> KeptSet
         ensures { result ≡ record { records = records; floor = floor } }
     {
@@ -68,36 +70,37 @@ impl KeptSet {
         }
     }
 
-    /// The offset below which deletes may have been forgotten.
+    /// Returns the floor: the offset below which tombstones may have been dropped.
     pub fn floor(&self) -> u64
         ensures { result ≡ self.now.floor }
     {
         self.floor
     }
 
-    /// The records, as a plain set.
+    /// Returns the records as a plain set.
     pub fn set(&self) -> &RecordSet
         ensures { result.now ≡ self.now.records }
     {
         &self.set
     }
 
-    /// The last record of the key: the greatest of its records.
+    /// Returns the last record of the key: the greatest of its records.
     pub fn last(&self, key: &Key) -> Option<&Record>
         ensures { option_map (λ found. found.now) result ≡ last self.now.records key.now }
     {
         self.set.last(key)
     }
 
-    /// Whether the record is in the set.
+    /// Returns whether the record is in the set.
     pub fn contains(&self, given: &Record) -> bool
         ensures { result ≡ set.contains self.now.records given.now }
     {
         self.set.contains(given)
     }
 
-    /// Copies of the records, each once: by offset, then by the text that is written for the key, by
-    /// bytes, then no value before a text, then by the text's bytes. The only error is out of memory.
+    /// Copies the records, each once: by offset, then by the bytes of the text that is written for
+    /// the key, then no value before a text, then by the text's bytes. The only error is out of
+    /// memory.
     pub fn records(&self) -> Result<Vec<Record>, AllocError>
         ensures all { IfOk result (λ found. found.items ≡ records_of self.now.records) }
         ensures in_order { IfOk result (λ found. IsTrue (is_in_order found.items)) }
@@ -106,9 +109,9 @@ impl KeptSet {
         self.set.records()
     }
 
-    /// Adds the record, and says what that did. It doesn't look at the floor: a record below it may
-    /// bring back what a forgotten delete had removed. The only error is out of memory; the set is
-    /// then as it was.
+    /// Adds the record, and returns what that did. It doesn't look at the floor: a record below it
+    /// may bring back what a dropped tombstone had deleted. The only error is out of memory; the
+    /// set is then unchanged.
     pub fn take(&mut self, given: &Record) -> Result<TakeOutcome, AllocError>
         ensures added { OnOk result
             (self.new ≡ record self.old { records = set.insert self.old.records given.now }) }
@@ -121,8 +124,8 @@ impl KeptSet {
         self.set.take(given)
     }
 
-    /// Adds the records of a plain set. The floor stays; as `take`, it doesn't look at it. The only
-    /// error is out of memory; the set is then as it was.
+    /// Adds the records of a plain set. The floor stays; like `take`, this doesn't look at it. The
+    /// only error is out of memory; the set is then unchanged.
     pub fn add(&mut self, more: &RecordSet) -> Result<(), AllocError>
         ensures added { OnOk result
             (self.new ≡ record self.old { records = set.union self.old.records more.now }) }
@@ -131,8 +134,8 @@ impl KeptSet {
         self.set.merge(more)
     }
 
-    /// Adds the records of the other set. Refuses a set of another floor; the only other error is
-    /// out of memory. After an error the set is as it was.
+    /// Adds the records of the other set. Errors: `FloorsDiffer` if the floors differ, or out of
+    /// memory. After an error the set is unchanged.
     pub fn merge(&mut self, other: &KeptSet) -> Result<(), MergeError>
         ensures merged { OnOk result (self.new ≡ merged self.old other.now) }
         ensures at_one_floor { self.old.floor ≡ other.now.floor
@@ -151,7 +154,7 @@ impl KeptSet {
         Ok(())
     }
 
-    /// Leaves the last record of each key alone, those without a value too. The floor stays. It takes
+    /// Removes all records but the last of each key; tombstones stay, and so does the floor. Takes
     /// no memory.
     pub fn compact(&mut self)
         ensures left { self.new ≡ record self.old { records = last_records self.old.records } }
@@ -160,9 +163,9 @@ impl KeptSet {
         self.set.compact();
     }
 
-    /// Leaves the last record of each key alone, and nothing of a key whose last record has no value
-    /// and stands below the floor. That floor is then the set's. Refuses a floor below the set's own;
-    /// the only other error is out of memory. After an error the set is as it was.
+    /// Removes all records but the last of each key, and also those that are tombstones below the
+    /// floor, which becomes the set's. Errors: `FloorBelow` if the floor is below the set's own, or
+    /// out of memory. After an error the set is unchanged.
     pub fn compact_to(&mut self, floor: u64) -> Result<(), FloorError>
         ensures left { OnOk result
             (self.new ≡ record { records = compacted_to floor self.old.records; floor = floor }) }
@@ -181,10 +184,11 @@ impl KeptSet {
         Ok(())
     }
 
-    /// What stays of the set without those records, with that floor. `None` where the floor is below the
-    /// set's own, or where the records may not leave: one isn't in the set, or is the last of its key
-    /// and more than a delete below that floor of which nothing else stays. What stays is else a
-    /// compaction of the set. The only error is out of memory.
+    /// Returns the set without those records and with that floor, a compaction of the set.
+    ///
+    /// `None` if the floor is below the set's own, if a record isn't in the set, or if one is the
+    /// last of its key and isn't a tombstone below that floor of whose key nothing else stays. The
+    /// only error is out of memory.
     pub fn without(&self, floor: u64, dropped: &[Record]) -> Result<Option<KeptSet>, AllocError>
         ensures { IfOk result (λ left. left
             ≡ (if nat_le self.now.floor floor && may_leave floor self.now.records dropped.now
@@ -200,9 +204,9 @@ impl KeptSet {
         Ok(Some(KeptSet { set: left, floor }))
     }
 
-    /// Takes on the floor of the other set, and the records that it has below it, in place of the own
-    /// ones below it. Refuses a floor below the set's own; the only other error is out of memory.
-    /// After an error the set is as it was.
+    /// Takes on the floor of the other set, and replaces the records below it by the other set's.
+    /// Errors: `FloorBelow` if that floor is below the set's own, or out of memory. After an error
+    /// the set is unchanged.
     pub fn rebase(&mut self, other: &KeptSet) -> Result<(), FloorError>
         ensures rebased { OnOk result (self.new
             ≡ record { records = rebased self.old.records other.now; floor = other.now.floor }) }
@@ -223,9 +227,9 @@ impl KeptSet {
     }
 }
 
-/// Whether `compaction` has a floor that is no lower than that of `whole`, records of `whole` alone,
-/// and of each key of `whole` the last record, or no record where that one has no value and stands
-/// below the floor of `compaction`. It takes no memory.
+/// Returns whether `compaction` is a compaction of `whole`: its floor is no lower, it has records
+/// of `whole` alone, and of each key of `whole` it has the last record, or no record if that one is
+/// a tombstone below the floor of `compaction`. Takes no memory.
 pub fn is_compaction_of(compaction: &KeptSet, whole: &KeptSet) -> bool
     ensures { IsTrue result ↔ IsCompactionOf compaction.now whole.now }
 {

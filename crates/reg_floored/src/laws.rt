@@ -7,7 +7,7 @@ use reg_set::{
     records_are_ordered,
 };
 
-/// Merging sets of one floor is commutative, associative and idempotent.
+/// Proves that merging sets of one floor is commutative, associative and idempotent.
 pub fn merging_joins_kept_sets()
     ensures commutative { MergingIsCommutative }
     ensures associative { MergingIsAssociative }
@@ -16,7 +16,8 @@ pub fn merging_joins_kept_sets()
     joins();
 }
 
-/// A set is a compaction of itself, and a compaction of a compaction is one of the whole.
+/// Proves that a set is a compaction of itself, and that a compaction of a compaction is one of the
+/// whole.
 pub fn compactions_compose()
     ensures itself { EachIsItsOwnCompaction }
     ensures across { CompactionsCompose }
@@ -24,7 +25,8 @@ pub fn compactions_compose()
     last_is_greatest();
 }
 
-/// What compacting leaves is a compaction, at the own floor and at each one above it.
+/// Proves that what compacting leaves is a compaction, at the set's own floor and at each one above
+/// it.
 pub fn last_records_are_compactions()
     ensures last_records { LastRecordsAreCompaction }
     ensures to_floor { CompactedToFloorIsCompaction }
@@ -34,7 +36,8 @@ pub fn last_records_are_compactions()
     last_records_are_enough();
 }
 
-/// A set and each of its compactions have the same last records, but for those without a value.
+/// Proves that a set and each of its compactions have the same last records, except for tombstones
+/// (those without a value).
 pub fn compactions_keep_what_stands()
     ensures last { LastOfCompaction }
     ensures standing { StandingOfCompaction }
@@ -43,8 +46,8 @@ pub fn compactions_keep_what_stands()
     last_is_greatest();
 }
 
-/// Compactions of one floor with the same records below it may be merged, and records from the
-/// floor on may be added to a compaction.
+/// Proves that compactions of one floor with the same records below it may be merged, and that
+/// records from the floor on may be added to a compaction.
 pub fn compactions_unite()
     ensures union { CompactionsUnite }
     ensures later { LaterRecordsMayJoin }
@@ -54,7 +57,7 @@ pub fn compactions_unite()
     joins();
 }
 
-/// What is left without some records is a compaction exactly where they may leave.
+/// Proves that dropping records of a set leaves a compaction exactly if they may be dropped.
 pub fn drops_leave_compactions()
     ensures { DropsLeaveCompactions }
 {
@@ -62,7 +65,8 @@ pub fn drops_leave_compactions()
     last_is_greatest();
 }
 
-/// The records that compacting to a floor drops may leave, and what it keeps is left.
+/// Proves that the records that compacting to a floor drops may be dropped, and that dropping them
+/// leaves what compacting keeps.
 pub fn compacting_drops_what_may_leave()
     ensures { CompactingDropsWhatMayLeave }
 {
@@ -71,8 +75,8 @@ pub fn compacting_drops_what_may_leave()
     last_records_are_compactions();
 }
 
-/// Sets that keep each last record of what was taken keep them in a merge and over a rebase, of which
-/// the last records alone count.
+/// Proves that subsets that keep each last record keep them in a merge and over a rebase, and that
+/// only the last records of a rebased set matter.
 pub fn rebasing_keeps_lasts()
     ensures union { KeepingLastsUnites }
     ensures rebased { RebasingKeepsLasts }

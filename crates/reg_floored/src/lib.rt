@@ -1,4 +1,25 @@
-//! Sets of records that a compaction may take deletes from, below a floor.
+//! Sets of records with a floor, below which a compaction may have dropped tombstones.
+//!
+//! A tombstone is a record without a value, which deletes its key. The floor is an offset, the
+//! low-water mark: a key whose last record is a tombstone below the floor may be missing as a
+//! whole.
+//!
+//! One idea: a compaction is a subset that keeps each last record, except tombstones below its
+//! floor. So a set and its compactions have the same last records with a value. A compaction of a
+//! compaction is one of the whole, and compactions of one floor that have the same records below it
+//! may be merged.
+//!
+//! A [`KeptSet`] is a `RecordSet` with its floor. [`KeptSet::compact`] keeps tombstones;
+//! [`KeptSet::compact_to`] raises the floor and drops those below it; [`KeptSet::rebase`] takes on
+//! the higher floor of another set and its records below that floor.
+//!
+//! This crate chooses no floor. It doesn't check that taken records are above the floor: one below
+//! it may bring back a deleted key.
+//!
+//! The main contract is that of [`KeptSet::compact_to`], clause `compaction`; the main law is
+//! [`compactions_keep_what_stands`], clause `standing`.
+//!
+//! Tests: `record_cases` and `test_records`.
 #![tactic(auto)]
 
 mod dropping;

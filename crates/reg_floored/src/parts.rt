@@ -9,8 +9,7 @@ use reg_records::Record;
 use reg_set::{RecordSet, records_are_ordered};
 use std::alloc::AllocError;
 
-/// The last records without those that delete their key below the floor. The only error is out of
-/// memory.
+/// Returns the last records without tombstones below the floor. The only error is out of memory.
 pub(crate) fn compacted_to(set: &RecordSet, floor: u64) -> Result<RecordSet, AllocError>
     ensures { IfOk result (λ found. found ≡ compacted_to floor set.now) }
 {
@@ -22,7 +21,7 @@ pub(crate) fn compacted_to(set: &RecordSet, floor: u64) -> Result<RecordSet, All
     set_of(&found)
 }
 
-/// The records below the floor. The only error is out of memory.
+/// Returns the records below the floor. The only error is out of memory.
 pub(crate) fn below(set: &RecordSet, floor: u64) -> Result<RecordSet, AllocError>
     ensures { IfOk result (λ found. found ≡ below floor set.now) }
 {
@@ -32,7 +31,7 @@ pub(crate) fn below(set: &RecordSet, floor: u64) -> Result<RecordSet, AllocError
     set_of(&found)
 }
 
-/// The records at the floor and above. The only error is out of memory.
+/// Returns the records at the floor and above. The only error is out of memory.
 pub(crate) fn from_floor(set: &RecordSet, floor: u64) -> Result<RecordSet, AllocError>
     ensures { IfOk result (λ found. found ≡ from_floor floor set.now) }
 {
@@ -60,14 +59,14 @@ fn keep_from(records: &mut Vec<Record>, floor: u64)
     records.retain(|record| floor <= record.offset);
 }
 
-/// Whether the record deletes its key, and stands below the floor.
+/// Returns whether the record is a tombstone (has no value) below the floor.
 pub fn deletes_below(given: &Record, floor: u64) -> bool
     ensures { result ≡ deletes_below floor given.now }
 {
     given.value.is_none() && given.offset < floor
 }
 
-/// The set of those records. The only error is out of memory.
+/// Makes the set of those records. The only error is out of memory.
 fn set_of(records: &Vec<Record>) -> Result<RecordSet, AllocError>
     ensures { IfOk result (λ found. found ≡ from_list records.now.items) }
 {

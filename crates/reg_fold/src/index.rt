@@ -31,17 +31,17 @@ use std::collections::BTreeSet;
 pub(crate) struct Index {
     pub(crate) alloc: Global,
     pub(crate) last: LastRecords,
-    // Those that the last records give, as their own values have them.
+    // Those that the last records give by themselves, soft deletes of subjects aside.
     pub(crate) entries: Entries,
     // Where the opaque versions are.
     pub(crate) unread: BTreeSet<Spot>,
-    // Of each subject the last soft delete, as far as it can be read.
+    // The last soft delete of each subject, if it can be read.
     pub(crate) deletes: Scoped<SoftDelete>,
-    // Those that scopes have of their own.
+    // The levels set on scopes.
     pub(crate) levels: Scoped<Level>,
-    // The names of those that scopes have of their own, as their records have them.
+    // The names of the modes set on scopes, as their records spell them.
     pub(crate) modes: Scoped<Text>,
-    // The id up to which ids were given away; 0 where no record says so.
+    // The id up to which ids were given away; 0 if no record says so.
     pub(crate) id_mark: u32,
 }
 
@@ -67,7 +67,7 @@ impl Clone for Index {
 impl Index {
     ghost use Rattle.reg_fold.specs.Kept.{AddsOnOk, IsKept, IsNewsTo};
 
-    /// Of no record.
+    /// Makes the index of no records.
     pub(crate) fn new(alloc: Global) -> Index
         ensures kept { IsKept result }
         ensures empty { result.last ≡ set.empty }
@@ -87,8 +87,9 @@ impl Index {
         }
     }
 
-    /// Adds a record, which may have been read for the other index, or whose schema may be the known one. The only error is out of
-    /// memory; the last records are then as they were.
+    /// Adds a record. What it gives is taken from the other index if the record is the last of its
+    /// key there; a schema that was read as `known` isn't read again. The only error is out of
+    /// memory; the last records are then unchanged.
     pub(crate) fn apply(
         &mut self,
         given: &Record,
@@ -114,7 +115,7 @@ impl Index {
         }
     }
 
-    /// Adds a version's record that is news.
+    /// Adds a version's record that changes the last records.
     fn apply_version(
         &mut self,
         given: &Record,
@@ -137,7 +138,8 @@ impl Index {
         }
     }
 
-    /// A text whose normal text is known: that of the entry which stands at the place, else that of the schema which was read.
+    /// Returns a text whose normal text is known: that of the entry at the place, else that of
+    /// `known`.
     fn known_at<'a>(
         &'a self,
         place: &(Text, u32),
@@ -151,7 +153,8 @@ impl Index {
         }
     }
 
-    /// A copy of the entry that the last record of its key gives by itself. The only error is out of memory.
+    /// Copies the entry that the last record of its key gives by itself, soft deletes of the
+    /// subject aside. The only error is out of memory.
     fn entry_at(&self, given: &Record, place: &(Text, u32)) -> Result<Option<Entry>, AllocError>
         requires kept { IsKept self.now }
         requires last { set.contains self.now.last given.now ≡ true }
@@ -199,7 +202,7 @@ impl Index {
         Ok(())
     }
 
-    /// Adds a version's record without a value, whose key has a record. It takes no memory.
+    /// Adds a version's record without a value whose key has a record. Takes no memory.
     pub(crate) fn bury(&mut self, given: Record)
         requires kept { IsKept self.old }
         requires tombstone { is_tombstone self.old.last given ≡ true }
@@ -211,7 +214,7 @@ impl Index {
         }
     }
 
-    /// Adds one that is news.
+    /// Adds such a record that changes the last records.
     fn bury_news(&mut self, given: Record)
         requires news { IsNewsTo given self.old }
         requires tombstone { is_tombstone self.old.last given ≡ true }
@@ -226,7 +229,7 @@ impl Index {
         forget(&mut self.unread, &spot);
     }
 
-    /// Forgets the record without a value, where it is the last of its key. It takes no memory.
+    /// Removes the record, which has no value, if it is the last of its key. Takes no memory.
     pub(crate) fn forget(&mut self, given: &Record)
         requires kept { IsKept self.old }
         requires no_value { is_none given.now.value ≡ true }
@@ -243,7 +246,7 @@ impl Index {
         entries_are_of_lasts(&self.last);
     }
 
-    /// Adds a version's record that has a text and can't be read.
+    /// Adds a version's record whose value can't be read.
     fn put_unread(&mut self, given: &Record, place: (Text, u32)) -> Result<(), AllocError>
         requires news { IsNewsTo given.now self.old }
         requires of_key { given.now.key ≡ keys.Schema place.0 place.1 }
@@ -264,7 +267,7 @@ impl Index {
         Ok(())
     }
 
-    /// Adds the record of a soft delete that is news.
+    /// Adds a subject's soft delete that changes the last records.
     fn apply_delete(&mut self, given: &Record, subject: &Text) -> Result<(), AllocError>
         requires news { IsNewsTo given.now self.old }
         requires of_key { given.now.key ≡ keys.DeleteSubject subject.now }
@@ -283,7 +286,7 @@ impl Index {
         Ok(())
     }
 
-    /// Adds a record that says nothing and is news.
+    /// Adds a no-operation record that changes the last records.
     fn apply_noop(&mut self, given: &Record) -> Result<(), AllocError>
         requires news { IsNewsTo given.now self.old }
         requires of_key { given.now.key ≡ keys.Noop }
@@ -293,7 +296,7 @@ impl Index {
         Ok(())
     }
 
-    /// Adds a mark of ids that is news.
+    /// Adds an id mark that changes the last records.
     fn apply_id_mark(&mut self, given: &Record) -> Result<(), AllocError>
         requires news { IsNewsTo given.now self.old }
         requires of_key { given.now.key ≡ keys.IdMark }
@@ -305,7 +308,8 @@ impl Index {
         Ok(())
     }
 
-    /// That the entries are those that the last records give, and that these are last records.
+    /// States that the entries are those that the last records give, and that these are last
+    /// records.
     pub(crate) fn entries_given(&self)
         ensures given { AreOfLasts self.now.last (entries self.now.last) }
         ensures lasts { last_records self.now.last ≡ self.now.last }
@@ -315,7 +319,7 @@ impl Index {
         self.last.is_compact();
     }
 
-    /// The least offset of an opaque version's record.
+    /// Returns the least offset of an opaque version's record.
     pub(crate) fn opaque(&self) -> Option<u64>
         requires { IsKept self.now }
         ensures { result ≡ opaque self.now.last }
@@ -328,8 +332,9 @@ impl Index {
     }
 }
 
-/// The entry that a version's record gives by itself: the other index's, where the record is the last of
-/// its key there too, and else what is read in it, where its schema isn't known. The only error is out of memory.
+/// Makes the entry that a version's record gives by itself: a copy of the other index's if the
+/// record is the last of its key there, else read from the record, without the schema if it is
+/// known. The only error is out of memory.
 fn entry_of(
     alloc: Global,
     given: &Record,
@@ -347,8 +352,8 @@ fn entry_of(
     }
 }
 
-/// Makes a version's record that is news the last of its key, puts its entry, and gives the record
-/// before. The only error is out of memory; all is then as it was.
+/// Puts a version's record and its entry, and returns the key's last record before. The only error
+/// is out of memory; nothing has changed then.
 fn put_with(
     lasts: &mut LastRecords,
     entries: &mut Entries,
@@ -371,7 +376,8 @@ fn put_with(
     Ok(before)
 }
 
-/// Makes a record that is news the last of its key, and gives the one before.
+/// Makes a record the last of its key, and returns the one before. The only error is out of memory;
+/// nothing has changed then.
 pub(crate) fn put_last(
     lasts: &mut LastRecords,
     given: &Record,
@@ -396,8 +402,7 @@ pub(crate) fn put_last(
     Ok(before)
 }
 
-/// Makes a record that is news the last of its key, which has one, and gives that one. It takes no
-/// memory.
+/// Makes a record the last of its key, which has one, and returns the one before. Takes no memory.
 fn put_over(lasts: &mut LastRecords, given: Record) -> Record
     requires news { last_records (set.insert lasts.old given) ≢ lasts.old }
     requires there { IsSome (last lasts.old given.key) }
@@ -417,7 +422,7 @@ fn put_over(lasts: &mut LastRecords, given: Record) -> Record
     before
 }
 
-/// The subject and the version of a version's key.
+/// Returns the subject and the version of a version's key.
 fn place_in(key: Key) -> (Text, u32)
     requires { is_version key ≡ true }
     ensures { key ≡ keys.Schema result.0 result.1 }
@@ -429,7 +434,7 @@ fn place_in(key: Key) -> (Text, u32)
     }
 }
 
-/// That the entry at a place is the one that the last record of its key gives.
+/// States that the entry at a place is the one that the last record of its key gives.
 fn entries_are_of_lasts(lasts: &LastRecords)
     ensures { EntriesAreOfLasts lasts.now }
 {

@@ -9,37 +9,38 @@ ghost use Rattle.reg_fold.specs.Standing.{EntriesStandByVersion, FoundEntriesSta
 use reg_set::{last_is_greatest, last_records_are_enough, records_are_ordered};
 use reg_values::values_are_of_keys;
 
-/// The text of each entry is a schema's, and the entry's normal text is that schema's.
+/// States that the text of each entry is a schema's, and that the entry's normal text is that
+/// schema's.
 pub fn entries_are_read()
     ensures { EntriesAreRead }
 {}
 
-/// The entry that is found of a subject is one of the entries.
+/// States that the entry found for a version of a subject is one of the entries.
 pub fn found_entries_stand()
     ensures { FoundEntriesStand }
 {}
 
-/// The entries of a subject stand by version, each version once.
+/// States that the entries of a subject are in the order of versions, each version once.
 pub fn entries_stand_by_version()
     ensures { EntriesStandByVersion }
 {}
 
-/// The version and the id of each entry are within their limits.
+/// States that each entry's version and id are within their limits.
 pub fn entries_are_in_limits()
     ensures { EntriesAreInLimits }
 {
     values_are_of_keys();
 }
 
-/// The mark of ids is 0, or an id within its limits.
+/// States that the id mark is 0 or an id within its limits.
 pub fn id_mark_is_in_limits()
     ensures { IdMarkIsInLimits }
 {
     values_are_of_keys();
 }
 
-/// An entry stands exactly where the last record of its subject and version gives it, and has the
-/// subject and the version of its record's key.
+/// States that an entry exists exactly if the last record of its subject and version gives it, and
+/// that it has the subject and version of that record's key.
 pub fn entries_are_of_places()
     ensures keys { EntriesAreOfKeys }
     ensures stand { EntriesAreOfPlaces }
@@ -49,7 +50,7 @@ pub fn entries_are_of_places()
     last_records_are_enough();
 }
 
-/// No version is opaque exactly where no key's last record is.
+/// States that no version is opaque exactly if no key's last record is opaque.
 pub fn none_is_no_opaque_last()
     ensures { NoneIsNoOpaqueLast }
 {
@@ -58,7 +59,8 @@ pub fn none_is_no_opaque_last()
     last_records_are_enough();
 }
 
-/// Giving the same is an equivalence.
+/// States that giving alike (the same entries, levels, modes, id mark and least opaque offset) is
+/// an equivalence of sets of last records.
 pub fn giving_alike_is_an_equivalence()
     ensures itself { EachGivesAlikeItself }
     ensures back { GivingAlikeIsSymmetric }

@@ -1,4 +1,4 @@
-// What a version's record says.
+// What the value of a record says.
 ghost use Rattle.std.specs.Prelude.{◌≡◌, [], IfOk};
 ghost use Rattle.std.specs.Option.{option_map_or};
 ghost use Rattle.reg_fold.specs.IdMark.{id_marked_of};
@@ -14,7 +14,8 @@ use reg_values::reg_records::{Record, Value};
 use reg_values::{Decoded, decode, decode_value};
 use std::alloc::{AllocError, Global};
 
-/// The entry that a record gives by itself, if it has a version's value. A schema's text whose normal text is known isn't read.
+/// Reads the entry that a record gives by itself, if it has a version's value. A schema text whose
+/// normal text is known isn't read again.
 #[tactic(auto, unfolding(crate::specs::Own::own_entry_of))]
 pub(crate) fn own_entry_of(
     alloc: Global,
@@ -52,7 +53,7 @@ pub(crate) fn own_entry_of(
     }
 }
 
-/// That text, or the empty one.
+/// Returns the text, or the empty one.
 fn or_empty(text: Option<Text>) -> Text
     ensures { result ≡ option_map_or (λ text. text) text [] }
 {
@@ -62,7 +63,7 @@ fn or_empty(text: Option<Text>) -> Text
     }
 }
 
-/// The level that a record names, if it has a level's value.
+/// Reads the level that a record names, if it has a level's value.
 #[tactic(auto, unfolding(crate::specs::InForce::level_of))]
 pub(crate) fn level_of(alloc: Global, given: &Record) -> Result<Option<Level>, AllocError>
     ensures { IfOk result (λ level. level ≡ level_of given.now) }
@@ -80,7 +81,7 @@ pub(crate) fn level_of(alloc: Global, given: &Record) -> Result<Option<Level>, A
     }
 }
 
-/// The name of the mode that a record has, if it has a mode's value.
+/// Reads the name of the mode in a record, if it has a mode's value.
 #[tactic(auto, unfolding(crate::specs::InForce::mode_name_of))]
 pub(crate) fn mode_name_of(alloc: Global, given: &Record) -> Result<Option<Text>, AllocError>
     ensures { IfOk result (λ name. name ≡ mode_name_of given.now) }
@@ -98,7 +99,7 @@ pub(crate) fn mode_name_of(alloc: Global, given: &Record) -> Result<Option<Text>
     }
 }
 
-/// The soft delete that a record is, if it has the value of one.
+/// Reads the soft delete of a subject in a record, if it has the value of one.
 #[tactic(auto, unfolding(crate::specs::SoftDeletes::delete_of))]
 pub(crate) fn delete_of(alloc: Global, given: &Record) -> Result<Option<SoftDelete>, AllocError>
     ensures { IfOk result (λ delete. delete ≡ delete_of given.now) }
@@ -119,7 +120,7 @@ pub(crate) fn delete_of(alloc: Global, given: &Record) -> Result<Option<SoftDele
     }
 }
 
-/// The id that a record marks, if it has a mark's value.
+/// Reads the id in an id mark's record, if it has the value of one.
 #[tactic(auto, unfolding(crate::specs::IdMark::id_marked_of))]
 pub(crate) fn id_marked_of(alloc: Global, given: &Record) -> Result<Option<u32>, AllocError>
     ensures { IfOk result (λ id. id ≡ id_marked_of given.now) }

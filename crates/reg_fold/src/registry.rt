@@ -34,7 +34,8 @@ use reg_values::reg_records::{Key, Record};
 use std::alloc::{AllocError, Global};
 use std::marker::Model;
 
-/// The entries of a set of records, and what is asked of them, by the last record of each key.
+/// A registry over a set of records: the entries, levels and modes that the last record of each key
+/// gives.
 ///
 /// Contracts see it as the set of those last records.
 #[derive(Debug, Drop)]
@@ -68,7 +69,7 @@ impl Clone for Registry {
 }
 
 impl Registry {
-    /// The registry over no record.
+    /// Makes the registry over no records.
     pub fn empty(alloc: Global) -> Registry
         ensures { result ≡ set.empty }
     {
@@ -77,8 +78,9 @@ impl Registry {
         }
     }
 
-    /// The registry over a set of records, which is that over each part that keeps its last records.
-    /// The only error is out of memory.
+    /// Makes the registry over a set of records. Each part of the set that keeps its last records,
+    /// such as a compaction that drops only superseded ones, gives the same registry. The only
+    /// error is out of memory.
     pub fn of_set(alloc: Global, set: &RecordSet) -> Result<Registry, AllocError>
         ensures lasts { IfOk result (λ registry. registry ≡ last_records set.now) }
         ensures compactions { IfOk result (λ registry.
@@ -88,10 +90,10 @@ impl Registry {
         Registry::over(alloc, &set.last_of_each()?)
     }
 
-    /// The registry over those records.
+    /// Makes the registry over these records.
     ///
-    /// A tree whose keys come in ascending order has nodes that are half full. So every second record
-    /// comes first, and then the others between them, which fill the nodes.
+    /// A tree whose keys come in ascending order has nodes that are half full. So every second
+    /// record is added first, and then those between them, which fill the nodes.
     fn over(alloc: Global, records: &[&Record]) -> Result<Registry, AllocError>
         ensures { IfOk result (λ registry.
             registry ≡ last_records (set.from_list (map (λ r. r.now) records.now))) }
@@ -101,7 +103,7 @@ impl Registry {
         Ok(registry)
     }
 
-    /// The registry over every second of those records. The only error is out of memory.
+    /// Makes the registry over every second of these records. The only error is out of memory.
     fn over_every_second(alloc: Global, records: &[&Record]) -> Result<Registry, AllocError>
         ensures { IfOk result (λ registry.
             last_records (set.union registry (set.from_list (map (λ r. r.now) records.now)))
@@ -121,7 +123,7 @@ impl Registry {
         Ok(registry)
     }
 
-    /// Adds all records. The only error is out of memory; some may then have been added.
+    /// Adds all records. The only error is out of memory; some records may have been added then.
     fn apply_lent(&mut self, records: &[&Record]) -> Result<(), AllocError>
         ensures { OnOk result (self.new
             ≡ last_records (set.union self.old (set.from_list (map (λ r. r.now) records.now)))) }
@@ -134,8 +136,8 @@ impl Registry {
         Ok(())
     }
 
-    /// Adds a record, in any order of arrival: a registry over a set becomes the registry over that
-    /// set with the record. The only error is out of memory; the registry is then as it was.
+    /// Adds a record. Records may come in any order: the result is the registry over the set with
+    /// this record. The only error is out of memory; the registry is then unchanged.
     pub fn apply(&mut self, given: &Record) -> Result<(), AllocError>
         ensures added { OnOk result (self.new ≡ last_records (set.insert self.old given.now)) }
         ensures whole { OnOk result ((whole : Records) → self.old ≡ last_records whole
@@ -145,9 +147,9 @@ impl Registry {
         self.apply_beside(given, None, None)
     }
 
-    /// Adds a record, as `apply` does, whatever the other registry and the known text are. Where the record is the last of its
-    /// key there too, it isn't read again: what it gives is taken from there. A schema that was read as the known text isn't read again
-    /// either.
+    /// Adds a record, as [`Registry::apply`] does. `other` and `known` only save work: if the
+    /// record is also the last of its key in `other`, what it gives is taken from there, and a
+    /// schema that was read as `known` isn't read again.
     pub fn apply_beside(
         &mut self,
         given: &Record,
@@ -166,12 +168,11 @@ impl Registry {
         }
     }
 
-    /// Adds all records or none, in any order of arrival. The only error is out of memory; the
-    /// registry is then as it was.
+    /// Adds all records or none, in any order. The only error is out of memory; the registry is
+    /// then unchanged.
     ///
-    /// It costs what the records cost where all but the first are tombstones of versions that have a
-    /// record, as a delete writes them. Of any other two records or more it costs a copy of the
-    /// registry, to which they are added.
+    /// The cost is that of the records if all but the first are tombstones of versions that have a
+    /// record, as in a permanent delete. Any other two or more records cost a copy of the registry.
     pub fn apply_all(&mut self, records: &[Record]) -> Result<(), AllocError>
         ensures added { OnOk result (self.new
             ≡ last_records (set.union self.old (set.from_list records.now))) }
@@ -182,8 +183,8 @@ impl Registry {
         self.apply_all_beside(records, None, None)
     }
 
-    /// Adds all records or none, as `apply_all` does, whatever the other registry and the known text are. A record that is the
-    /// last of its key there too isn't read again, and neither is a schema that was read as the known text.
+    /// Adds all records or none, as [`Registry::apply_all`] does. `other` and `known` only save
+    /// work, as in [`Registry::apply_beside`].
     pub fn apply_all_beside(
         &mut self,
         records: &[Record],
@@ -209,7 +210,7 @@ impl Registry {
         }
     }
 
-    /// Adds no record.
+    /// Adds no records.
     fn apply_none(&self) -> Result<(), AllocError>
         ensures { self.now ≡ last_records (set.union self.now (set.from_list [])) }
     {
@@ -218,14 +219,14 @@ impl Registry {
         Ok(())
     }
 
-    /// Whether each of the records can be added without memory.
+    /// Returns whether all of the records can be added without memory.
     fn are_tombstones(&self, records: &[Record]) -> bool
         ensures { result ≡ list_all (is_tombstone self.now) records.now }
     {
         records.iter().all(|given| self.is_tombstone(given))
     }
 
-    /// Whether it is a version's record without a value, whose key has a record.
+    /// Returns whether this is a version's record without a value whose key has a record.
     fn is_tombstone(&self, given: &Record) -> bool
         ensures { result ≡ is_tombstone self.now given.now }
     {
@@ -234,8 +235,8 @@ impl Registry {
             && self.last(&given.key).is_some()
     }
 
-    /// Adds a record, and then tombstones, or none of them. The only error is out of memory; the
-    /// registry is then as it was.
+    /// Adds a record and then tombstones, or nothing. The only error is out of memory; the registry
+    /// is then unchanged.
     fn apply_before(
         &mut self,
         first: &Record,
@@ -258,7 +259,7 @@ impl Registry {
         Ok(())
     }
 
-    /// Adds tombstones. It takes no memory.
+    /// Adds tombstones. Takes no memory.
     fn bury_all(&mut self, tombstones: Vec<Record>)
         requires { list_all (is_tombstone self.old) tombstones.items ≡ true }
         ensures { self.new ≡ last_records (set.union self.old (set.from_list tombstones.items)) }
@@ -270,7 +271,8 @@ impl Registry {
         }
     }
 
-    /// Adds a tombstone. It takes no memory, and what was one still is one.
+    /// Adds a tombstone. Takes no memory. Records that could be added as tombstones before still
+    /// can be.
     fn bury(&mut self, tombstone: Record)
         requires { is_tombstone self.old tombstone ≡ true }
         ensures added { self.new ≡ last_records (set.insert self.old tombstone) }
@@ -285,7 +287,8 @@ impl Registry {
         self.index.bury(tombstone);
     }
 
-    /// Adds all records or none. The only error is out of memory; the registry is then as it was.
+    /// Adds all records or none, by way of a copy. The only error is out of memory; the registry is
+    /// then unchanged.
     fn apply_to_copy(
         &mut self,
         records: &[Record],
@@ -302,7 +305,7 @@ impl Registry {
         Ok(())
     }
 
-    /// Adds all records. The only error is out of memory; some may then have been added.
+    /// Adds all records. The only error is out of memory; some records may have been added then.
     fn apply_each(
         &mut self,
         records: &[Record],
@@ -320,9 +323,9 @@ impl Registry {
         Ok(())
     }
 
-    /// Forgets the record, where it is the last of its key and has no value: a key that is deleted then
-    /// has no record at all, and what is left gives the same. Any other record changes nothing. It takes
-    /// no memory.
+    /// Removes the record if it is the last of its key and has no value (a tombstone). The key has
+    /// no record then; entries, levels, modes and the id mark stay the same. Any other record
+    /// changes nothing. Takes no memory.
     pub fn forget(&mut self, given: &Record)
         ensures left { self.new
             ≡ (if is_none given.now.value then set.remove self.old given.now else self.old) }
@@ -336,8 +339,8 @@ impl Registry {
         self.index.last.is_compact();
     }
 
-    /// Forgets those of the records that are the last of their keys and have no value; what is left
-    /// gives the same. It takes no memory.
+    /// Removes each of these records that is the last of its key and has no value, as
+    /// [`Registry::forget`] does. Takes no memory.
     pub fn forget_all(&mut self, given: &[Record])
         ensures left { self.new
             ≡ set.difference self.old (set.from_list (filter (λ r. is_none r.value) given.now)) }
@@ -352,8 +355,8 @@ impl Registry {
         self.index.last.is_compact();
     }
 
-    /// The last records, each once: one a key, by the derived order of keys. The only error is out of
-    /// memory.
+    /// Returns the last records, one for each key, in the derived order of keys. The only error is
+    /// out of memory.
     pub fn records(&self) -> Result<Vec<&Record>, AllocError>
         ensures all { IfOk result (λ found. self.now
             ≡ set.from_list (map (λ r. r.now) found.items)) }
@@ -363,16 +366,16 @@ impl Registry {
         self.index.last.records(self.index.alloc)
     }
 
-    /// The last record of the key. Takes no memory.
+    /// Returns the last record of the key. Takes no memory.
     pub fn last(&self, key: &Key) -> Option<&Record>
         ensures { option_map (λ found. found.now) result ≡ last self.now key.now }
     {
         self.index.last.last(key)
     }
 
-    /// A copy of a record, whose value brings along the text that the entry at its place has, if there
-    /// is one: who reads a version's record then shares the text with this registry. The only error is
-    /// out of memory.
+    /// Copies a record. If its key is a version's that has an entry, the copy's value also carries
+    /// the entry's text, so that a reader of the copy shares that text with this registry. The only
+    /// error is out of memory.
     pub fn copy_of(&self, given: &Record) -> Result<Record, AllocError>
         ensures { IfOk result (λ copy. copy ≡ given.now) }
     {
@@ -390,7 +393,7 @@ impl Registry {
         })
     }
 
-    /// The text of the entry at a version's place. The only error is out of memory.
+    /// Returns the text of the entry that a version's key has. The only error is out of memory.
     fn text_at(&self, key: &Key) -> Result<Option<&Text>, AllocError> {
         let Key::Schema { subject, version } = key else {
             return Ok(None);
@@ -402,14 +405,14 @@ impl Registry {
         }
     }
 
-    /// Whether the record is the last of its key. Takes no memory.
+    /// Returns whether the record is the last of its key. Takes no memory.
     pub fn contains(&self, given: &Record) -> bool
         ensures { result ≡ set.contains self.now given.now }
     {
         self.index.last.contains(given)
     }
 
-    /// The entries, by subject, by its bytes, and then by version, each version of a subject once.
+    /// Returns all entries, soft-deleted ones too, by the bytes of the subject and then by version.
     /// The only error is out of memory.
     pub fn entries(&self) -> Result<Vec<&Entry>, AllocError>
         ensures all { IfOk result (λ found. map (λ e. e.now) found.items ≡ entries self.now) }
@@ -423,8 +426,8 @@ impl Registry {
             .all_shown(&self.index.deletes.of_subjects)
     }
 
-    /// The live entries of a subject, which are those that aren't soft, by version, each version
-    /// once. The only error is out of memory.
+    /// Returns a subject's live entries (those that aren't soft-deleted), by version. The only
+    /// error is out of memory.
     pub fn live(&self, subject: &str) -> Result<Vec<&Entry>, AllocError>
         ensures all { IfOk result (λ found. map (λ e. e.now) found.items ≡ live self.now subject.now) }
         ensures in_order { IfOk result (λ found. AreInVersionOrder (map (λ e. e.now) found.items)) }
@@ -436,8 +439,8 @@ impl Registry {
             .counting(&self.index.deletes.of_subjects, subject, false)
     }
 
-    /// The entries of a subject that count, by version, each version once: the live ones, and where
-    /// `deleted` is true the soft ones too. The only error is out of memory.
+    /// Returns a subject's live entries, and with `deleted` the soft-deleted ones too, by version.
+    /// The only error is out of memory.
     pub fn counting(&self, subject: &str, deleted: bool) -> Result<Vec<&Entry>, AllocError>
         ensures all { IfOk result (λ found. map (λ e. e.now) found.items ≡ counting (entries self.now) subject.now deleted) }
         ensures in_order { IfOk result (λ found. AreInVersionOrder (map (λ e. e.now) found.items)) }
@@ -447,8 +450,8 @@ impl Registry {
             .counting(&self.index.deletes.of_subjects, subject, deleted)
     }
 
-    /// Of the entries of a subject that count the one that is meant. The only error is out of
-    /// memory.
+    /// Finds a version of a subject among the live entries, and with `deleted` among the
+    /// soft-deleted ones too. The only error is out of memory.
     pub fn version(
         &self,
         subject: &str,
@@ -469,7 +472,8 @@ impl Registry {
         }
     }
 
-    /// The subjects with an entry that counts, by their bytes. The only error is out of memory.
+    /// Returns the subjects that have a live entry, or with `deleted` any entry, by their bytes.
+    /// The only error is out of memory.
     pub fn subjects(&self, deleted: bool) -> Result<Vec<&str>, AllocError>
         ensures { IfOk result (λ found. map (λ s. s.now) found.items ≡ subjects (entries self.now) deleted) }
     {
@@ -478,7 +482,7 @@ impl Registry {
             .subjects(&self.index.deletes.of_subjects, deleted)
     }
 
-    /// Whether a subject, or any one, has a live entry. Takes no memory.
+    /// Returns whether the subject, or with `None` any subject, has a live entry. Takes no memory.
     pub fn has_live(&self, subject: Option<&str>) -> bool
         ensures { result ≡ has_live (entries self.now) (option_map (λ s. s.now) subject.entry) }
     {
@@ -487,8 +491,8 @@ impl Registry {
             .has_live(&self.index.deletes.of_subjects, subject)
     }
 
-    /// The entries with an id, soft ones too, by subject, by its bytes, and then by version. The
-    /// only error is out of memory.
+    /// Returns the entries with this id, soft-deleted ones too, by the bytes of the subject and
+    /// then by version. The only error is out of memory.
     pub fn with_id(&self, id: u32) -> Result<Vec<&Entry>, AllocError>
         ensures { IfOk result (λ found. map (λ e. e.now) found.items ≡ with_id (entries self.now) id) }
     {
@@ -497,9 +501,9 @@ impl Registry {
             .with_id(&self.index.deletes.of_subjects, id)
     }
 
-    /// The entry that an id names: of the entries with that id, soft ones too, the one of greatest
-    /// offset; of these the one of greatest subject, by its bytes; of these the one of greatest
-    /// version.
+    /// Returns the entry that an id names: of the entries with the id, soft-deleted ones too, the
+    /// one of greatest offset; among equals the one of greatest subject by its bytes, then of
+    /// greatest version.
     pub fn by_id(&self, id: u32) -> Option<&Entry>
         ensures { option_copied result ≡ named self.now id }
     {
@@ -508,62 +512,62 @@ impl Registry {
             .named(&self.index.deletes.of_subjects, id)
     }
 
-    /// The greatest id of an entry, soft ones too.
+    /// Returns the greatest id of the entries, soft-deleted ones too.
     pub fn greatest_id(&self) -> Option<u32>
         ensures { result ≡ greatest_id self.now }
     {
         self.index.entries.greatest_id()
     }
 
-    /// The id up to which ids were given away, as far as the records say: that of the last mark; 0
-    /// where there is none that can be read. Takes no memory.
+    /// Returns the id mark, which records that ids up to it were given away: the id of the last
+    /// such record, or 0 if there is none that can be read. Takes no memory.
     pub fn mark(&self) -> u32
         ensures { result ≡ id_mark self.now }
     {
         self.index.id_mark
     }
 
-    /// The greatest id that is marked or that an entry has, soft ones too; 0 where there is none.
-    /// Takes no memory.
+    /// Returns the greatest id that is marked or that an entry has, soft-deleted ones too; 0 if
+    /// there is none. Takes no memory.
     pub fn last_id(&self) -> u32
         ensures { result ≡ last_id self.now }
     {
         self.mark().max(self.greatest_id().unwrap_or(0))
     }
 
-    /// The greatest version of a subject's entries, soft ones too.
+    /// Returns the greatest version of a subject's entries, soft-deleted ones too.
     pub fn greatest_version(&self, subject: &str) -> Option<u32>
         ensures { result ≡ greatest_version self.now subject.now }
     {
         self.index.entries.greatest_version(subject)
     }
 
-    /// The least id of an entry of the schema with that normal text, soft ones too. The only error
-    /// is out of memory.
+    /// Returns the least id of the entries whose schema has this normal text, soft-deleted ones
+    /// too. The only error is out of memory.
     pub fn id_of(&self, normal: &str) -> Result<Option<u32>, AllocError>
         ensures { IfOk result (λ id. id ≡ id_of self.now normal.now) }
     {
         self.index.entries.id_of(normal)
     }
 
-    /// The least id that names two schemas, soft versions counted: that of two entries whose
-    /// normal texts differ.
+    /// Returns the least id that names two schemas: two entries, live or soft-deleted, have it, and
+    /// their normal texts differ.
     pub fn two_schemas(&self) -> Option<u32>
         ensures { result ≡ two_schemas self.now }
     {
         self.index.entries.two_schemas()
     }
 
-    /// Whether the registry takes no commands: a version's record can't be read, or an id names two
-    /// schemas.
+    /// Returns whether the registry takes no commands, because a version's record can't be read or
+    /// an id names two schemas.
     pub fn is_closed(&self) -> bool
         ensures { result ≡ is_closed self.now }
     {
         self.opaque().is_some() || self.two_schemas().is_some()
     }
 
-    /// The level in force for a subject, or for all subjects: the subject's own, else the one for
-    /// all, else `Backward`. Takes no memory.
+    /// Returns the level in force for a subject, or with `None` for all subjects: the subject's
+    /// own, else the global one, else BACKWARD. Takes no memory.
     pub fn level(&self, subject: Option<&str>) -> Level
         ensures { result ≡ level self.now (option_map (λ s. s.now) subject.entry) }
     {
@@ -573,22 +577,24 @@ impl Registry {
         }
     }
 
-    /// The level that a subject has of its own, or the one for all subjects. Takes no memory.
+    /// Returns the level set on a subject itself, or with `None` the global one, if it was set.
+    /// Takes no memory.
     pub fn own_level(&self, subject: Option<&str>) -> Option<Level>
         ensures { result ≡ own_level self.now (option_map (λ s. s.now) subject.entry) }
     {
         self.index.levels.of(subject).copied()
     }
 
-    /// The name of the mode that a subject has of its own, or of the one for all subjects, as its
-    /// record has it. Takes no memory.
+    /// Returns the name of the mode set on a subject itself, or with `None` of the global one, as
+    /// its record spells it. It may be no mode's name. Takes no memory.
     pub fn own_mode_name(&self, subject: Option<&str>) -> Option<&str>
         ensures { option_map (λ s. s.now) result ≡ own_mode_name self.now (option_map (λ s. s.now) subject.entry) }
     {
         self.index.modes.of(subject).map(Text::as_str)
     }
 
-    /// The least offset of a version's record that has a text and can't be read.
+    /// Returns the least offset of an opaque version's record: one that has a value that can't be
+    /// read.
     pub fn opaque(&self) -> Option<u64>
         ensures { result ≡ opaque self.now }
     {
@@ -596,7 +602,7 @@ impl Registry {
     }
 }
 
-/// Copies of the records. The only error is out of memory.
+/// Copies the records. The only error is out of memory.
 fn copies_of(alloc: Global, records: &[Record]) -> Result<Vec<Record>, AllocError>
     ensures { IfOk result (λ copies. copies.items ≡ records.now) }
 {

@@ -1,4 +1,4 @@
-// What scopes have of their own. A scope is a subject, or None for all subjects.
+// Values set on scopes. A scope is a subject, or None for all subjects.
 ghost use Rattle.std.specs.Prelude.{◌≡◌, ℕ, List, None, OnOk, OnErr, Some, Option, option_map, bytes_eq, if◌then◌else◌};
 ghost use Rattle.std.specs.BTreeMap.{get_by_text};
 ghost use Rattle.std.specs.Option.{option_copied};
@@ -9,14 +9,14 @@ use reg_values::base_text::Text;
 use std::alloc::{AllocError, Global};
 use std::collections::BTreeMap;
 
-/// What scopes have of their own, found without memory.
+/// Values set on scopes, such as levels. Found without memory.
 #[derive(Debug, Drop)]
 pub(crate) struct Scoped<T> {
     pub(crate) of_all: Option<T>,
     pub(crate) of_subjects: BTreeMap<String, T>,
 }
 
-/// Scope by scope, where a clone equals what it was made of.
+/// Copies each value; a copy has the same values if copies of values are equal to them.
 impl<T: Clone> Clone for Scoped<T> {
     ghost use Rattle.std.specs.Prelude.{◌≡◌};
     ghost use Rattle.reg_fold.specs.InForce.{Scope};
@@ -33,7 +33,7 @@ impl<T: Clone> Clone for Scoped<T> {
 }
 
 impl<T> Scoped<T> {
-    /// Of no scope.
+    /// Makes the values of no scope.
     pub(crate) fn new(alloc: Global) -> Scoped<T>
         ensures { (q : Scope) → kept_own result q ≡ None }
     {
@@ -43,7 +43,7 @@ impl<T> Scoped<T> {
         }
     }
 
-    /// What the scope has of its own.
+    /// Returns the value set on the scope.
     pub(crate) fn of(&self, scope: Option<&str>) -> Option<&T>
         ensures { option_copied result ≡ kept_own self.now (option_map (λ s. s.now) scope.entry) }
     {
@@ -55,8 +55,8 @@ impl<T> Scoped<T> {
 }
 
 impl<T: Drop> Scoped<T> {
-    /// Gives the scope its own in place of what it has, or takes that away. The only error is out of
-    /// memory; all is then as it was.
+    /// Sets the scope's value, or removes it with `None`. The only error is out of memory; nothing
+    /// has changed then.
     pub(crate) fn set(
         &mut self,
         alloc: Global,

@@ -1,4 +1,4 @@
-// The records of levels and modes, which scopes have of their own.
+// The records of levels and modes, which are set on scopes.
 ghost use Rattle.std.specs.Prelude.{◌≡◌, ◌≢◌, OnOk, OnErr};
 ghost use Rattle.std.specs.FinSet as set;
 ghost use Rattle.reg_values.specs.reg_records.declared.key.Key.TheVariants as keys;
@@ -18,7 +18,7 @@ use std::alloc::{AllocError, Global};
 impl Index {
     ghost use Rattle.reg_fold.specs.Kept.{AddsOnOk, IsNewsTo};
 
-    /// Adds the record of a level that is news.
+    /// Adds a level's record that changes the last records.
     pub(crate) fn apply_config(
         &mut self,
         given: &Record,
@@ -40,7 +40,7 @@ impl Index {
         Ok(())
     }
 
-    /// Adds the record of a mode that is news.
+    /// Adds a mode's record that changes the last records.
     pub(crate) fn apply_mode(
         &mut self,
         given: &Record,
@@ -63,8 +63,8 @@ impl Index {
     }
 }
 
-/// Makes a record that is news the last of its key, and gives the scope its own, or takes away what
-/// it has. The only error is out of memory; all is then as it was.
+/// Makes a record the last of its key, and sets the scope's value, or removes it with `None`. The
+/// only error is out of memory; nothing has changed then.
 pub(crate) fn put_own<T: Drop>(
     alloc: Global,
     lasts: &mut LastRecords,

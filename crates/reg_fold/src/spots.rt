@@ -1,4 +1,4 @@
-// Where the versions of a kind are.
+// Where opaque versions are.
 ghost use Rattle.std.specs.Prelude.{◌≡◌};
 ghost use Rattle.reg_fold.specs.Spots.{Forgets, elsewhere, spot_of};
 
@@ -9,7 +9,7 @@ use std::collections::BTreeSet;
 /// The offset of a version's record, and the version's subject and number.
 pub(crate) type Spot = (u64, (Text, u32));
 
-/// Where a record of that place is, if there is one.
+/// Returns the spot of the record that was at the place, if there was one.
 pub(crate) fn spot_of(before: Option<Record>, place: (Text, u32)) -> Option<Spot>
     ensures { result ≡ spot_of before place }
 {
@@ -17,7 +17,7 @@ pub(crate) fn spot_of(before: Option<Record>, place: (Text, u32)) -> Option<Spot
     Some((record.offset, place))
 }
 
-/// Forgets a spot, if there is one.
+/// Removes the spot, if there is one.
 pub(crate) fn forget(spots: &mut BTreeSet<Spot>, spot: &Option<Spot>)
     ensures { Forgets spot.now spots.old spots.new }
 {
@@ -26,7 +26,7 @@ pub(crate) fn forget(spots: &mut BTreeSet<Spot>, spot: &Option<Spot>)
     }
 }
 
-/// Forgets a spot, if there is one, unless it is at that offset.
+/// Removes the spot, if there is one, unless its record is at that offset.
 pub(crate) fn forget_elsewhere(spots: &mut BTreeSet<Spot>, spot: &Option<Spot>, offset: u64)
     ensures { Forgets (elsewhere spot.now offset) spots.old spots.new }
 {

@@ -1,10 +1,10 @@
-// Which version of a subject is meant.
+// Versions as requests name them.
 
 /// A version of a subject, as requests name it.
 #[derive(Clone, Copy, Debug, PartialEq, Eq)]
 pub enum VersionRef {
-    /// The greatest version that counts.
+    /// The greatest version among those that are looked at.
     Latest,
-    /// The version of that number, from 1 to 2,147,483,647.
+    /// The version with this number, from 1 to 2,147,483,647.
     Number(u32),
 }

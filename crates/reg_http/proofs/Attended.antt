@@ -12,12 +12,15 @@ use Rattle.reg_refusals.specs.declared.refusal.Refusal.{Refusal}
 use Rattle.reg_messages.specs.Fields.{told_length}
 use Rattle.reg_messages.specs.Head.{front_of, head, IsHead}
 use Rattle.reg_messages.specs.Messages.{after_body, fields_of, wants_close}
-use Rattle.reg_messages.specs.Reading.{GetsFrom, IsRefusedAt}
+use Rattle.reg_messages.specs.Parts.{Parts, parts_of}
+use Rattle.reg_messages.specs.Reading.{GetsFrom, GetsLent, IsRefusedAt}
+use Rattle.reg_messages.specs.declared.reading.Got.{Got}
 use Rattle.reg_messages.specs.declared.reading.Got.TheVariants as gots
 use Rattle.reg_messages.specs.declared.request.Request.{Request}
 use Rattle.reg_requests.specs.Asked.{asked_of, asked_of_target}
 use Rattle.reg_requests.specs.declared.asked.Asked.{Asked}
 use Rattle.reg_requests.specs.declared.asked.Asked.TheVariants as asked
+use Rattle.reg_requests.proofs.Endpoints.{asked-told}
 use Rattle.reg_refusals.specs.Refusal.{no_memory}
 use Rattle.reg_requests.specs.reg_routes.Endpoint.{endpoint_of, nowhere}
 use Rattle.reg_requests.specs.reg_routes.declared.endpoint.Endpoint.{Endpoint}
@@ -41,19 +44,22 @@ asked-refused : (r : Request) (refusal : Refusal) → told_length r.fields ≡ E
 unfolding asked_of
 asked-refused r refusal told = rw told refl
 
--- what a request asks whose length isn't refused
-asked-told : (r : Request) (told : Option ℕ) → told_length r.fields ≡ Ok told → asked_of r ≡ asked_of_target r told
-unfolding asked_of
-asked-told r told is = rw is refl
-
 -- a request that was read goes where its head says, or memory was refused
-goes-message : (text : List ℕ) (wants : Bool) (request : Request) (endpoint : Endpoint) (done : Done) (bytes : List ℕ) (h : RequestHead)
-    (after : List ℕ) → front_of text ≡ head bytes after → IsHead bytes h → request ≡ request_of h after → GoesBy request endpoint done
+goes-message : (text : List ℕ) (wants : Bool) (parts : Parts) (endpoint : Endpoint) (done : Done) (bytes : List ℕ) (h : RequestHead)
+    (after : List ℕ) → front_of text ≡ head bytes after → IsHead bytes h → parts ≡ parts_of (request_of h after) → GoesBy parts endpoint done
     → GoesTo text (done_text wants done) endpoint
-goes-message text wants request endpoint done bytes h after front is same goes = elim goes [
-  | inl there ↦ inl (bytes, after, h, front, is, there ∙ ap (λ (r : Request). endpoint_of r.method r.target) same)
+goes-message text wants parts endpoint done bytes h after front is same goes = elim goes [
+  | inl there ↦ inl (bytes, after, h, front, is, there ∙ ap (λ (p : Parts). endpoint_of p.method p.target) same)
   | inr p ↦ inr (p.0, inr (wants, ap (λ d. done_text wants d) p.1))
 ]
+
+-- a message that was read lends its parts
+pub gets-lent : (text : List ℕ) (left : Option (List ℕ)) (got : Got Request) → GetsFrom text left got → GetsLent parts_of text left got
+gets-lent text left gots.Over gets = gets
+gets-lent text left (gots.Refused refusal) gets = gets
+gets-lent text left (gots.Message request told wants) (bytes, h, after, has, same, length, wanted) =
+    (bytes, h, after, has, ap parts_of same, length, wanted)
+gets-lent text left (gots.NoMemory wants) gets = gets
 
 -- a response states its status
 pub done-states : (wants : Bool) (done : Done) → StatesStatus (done_text wants done) (done_status done)
@@ -97,14 +103,15 @@ module _ {D : Type 0} (asks : D → Query → Result Answer AllocError → D →
   head-answers old new text bytes h after wants out left front is answers =
       subst (λ f. AnswersFront asks commands old f out new left) (sym front) (inl (h, is, answers))
 
-  pub attends-request : (old new : D) (text : List ℕ) (left : Option (List ℕ))
-      (request : Request) (told : Option ℕ) (wants : Bool) (endpoint : Endpoint) (done : Done)
-      → GetsFrom text left (gots.Message request told wants)
-      → Did asks commands old (asked_of_target request told) new done
-      → GoesBy request endpoint done
+  pub attends-request : {Q : Type 0} (lent : Q → Parts) (old new : D) (text : List ℕ) (left : Option (List ℕ))
+      (request : Q) (parts : Parts) (told : Option ℕ) (wants : Bool) (endpoint : Endpoint) (done : Done)
+      → parts ≡ lent request → GetsLent lent text left (gots.Message request told wants)
+      → Did asks commands old (asked_of_target parts told) new done
+      → GoesBy parts endpoint done
       → Attends asks commands old text left new (attended.Done endpoint done wants)
-  attends-request old new text left request told wants endpoint done (bytes, h, after, (front, is, ok, rest), same, length, wanted) did goes =
-      let asks_same = ap (λ r. asked_of_target r told) same ∙ sym (asked-told (request_of h after) told length) in
+  attends-request lent old new text left request parts told wants endpoint done known
+      (bytes, h, after, (front, is, ok, rest), same, length, wanted) did goes =
+      let asks_same = ap (λ p. asked_of_target p told) (known ∙ same) ∙ sym (asked-told (request_of h after) told length) in
       let answers = did-answers old new h (asked_of (request_of h after)) done ok
       (subst (λ a. Did asks commands old a new done) asks_same did) in (
         after_body h after,
@@ -114,12 +121,12 @@ module _ {D : Type 0} (asks : D → Query → Result Answer AllocError → D →
             (head-answers old new text bytes h after wants (done_text (wants_close h) done)
             (left_if (done_closes (wants_close h) done) (after_body h after)) front is
             (done_closes (wants_close h) done, refl, answers)),
-        goes-message text wants request endpoint done bytes h after front is same goes,
+        goes-message text wants parts endpoint done bytes h after front is (known ∙ same) goes,
       )
 
-  pub attends-no_memory : (old : D) (text : List ℕ) (left : Option (List ℕ)) (wants : Bool)
-      → GetsFrom text left (gots.NoMemory wants) → Attends asks commands old text left old (attended.Done nowhere dones.NoMemory wants)
-  attends-no_memory old text left wants (bytes, h, after, (front, is, ok, rest), wanted) = (
+  pub attends-no_memory : {Q : Type 0} (lent : Q → Parts) (old : D) (text : List ℕ) (left : Option (List ℕ)) (wants : Bool)
+      → GetsLent lent text left (gots.NoMemory wants) → Attends asks commands old text left old (attended.Done nowhere dones.NoMemory wants)
+  attends-no_memory lent old text left wants (bytes, h, after, (front, is, ok, rest), wanted) = (
     after_body h after,
     λ _. rest,
     head-answers old old text bytes h after wants (done_text wants dones.NoMemory) (left_if wants (after_body h after)) front is

@@ -10,8 +10,8 @@ use Rattle.reg_records.specs.Device.{begun_of, faults_of, place_of}
 use Rattle.reg_records.specs.declared.device.Device.{Device}
 use Rattle.httparse.specs.Grammar.{RequestHead}
 use Rattle.reg_messages.specs.Head.{IsHead, front_of, head, over}
+use Rattle.reg_messages.specs.Parts.{Parts}
 use Rattle.reg_messages.specs.Reading.{IsRefusedAt, TakesShort}
-use Rattle.reg_messages.specs.declared.request.Request.{Request}
 use Rattle.reg_refusals.specs.Refusal.{no_memory, status_of}
 use Rattle.reg_refusals.specs.declared.refusal.Refusal.{Refusal}
 use Rattle.reg_requests.specs.declared.asked.Asked.{Asked}
@@ -52,8 +52,8 @@ done_status (dones.Refused refusal ends) = status_of refusal
 done_status dones.NoMemory = status_of no_memory
 
 -- where a request goes, of which that was done: where its method and its target say, or nowhere, where memory was refused before
-abbrev pub GoesBy : Request → Endpoint → Done → Type 0
-GoesBy request endpoint done = (endpoint ≡ endpoint_of request.method request.target) ⊎ ((endpoint ≡ nowhere) × (done ≡ dones.NoMemory))
+abbrev pub GoesBy : Parts → Endpoint → Done → Type 0
+GoesBy parts endpoint done = (endpoint ≡ endpoint_of parts.method parts.target) ⊎ ((endpoint ≡ nowhere) × (done ≡ dones.NoMemory))
 
 -- where the request at the front of a text goes, to which that is the response: where the method and the target of its head say; or
 -- nowhere, where no message could be read there, or memory was refused

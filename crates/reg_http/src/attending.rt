@@ -1,20 +1,21 @@
 // Doing what a message asks.
 ghost use Rattle.std.specs.Prelude.{ℕ, List, Option};
-ghost use Rattle.reg_messages.specs.Reading.{GetsFrom};
+ghost use Rattle.reg_messages.specs.Reading.{GetsLent};
 ghost use Rattle.reg_http.specs.ServeSteps.{Attends};
 
 use crate::desk::Desk;
 use crate::doing::{Done, do_request};
-use reg_messages::Got;
+use reg_messages::{Got, LendsParts};
 use reg_requests::{Endpoint, Paths};
 use std::alloc::Global;
 
-/// What became of the next request.
+/// The result of one request.
 #[derive(Debug, Drop)]
 pub(crate) enum Attended {
-    /// There was none.
+    /// There was no request.
     Over,
-    /// It went there and is done; the client wants the connection closed after it or not.
+    /// The request was done at that endpoint. `wants_close` is whether the client wants the
+    /// connection closed after it.
     Done {
         endpoint: Endpoint,
         done: Done,
@@ -22,14 +23,14 @@ pub(crate) enum Attended {
     },
 }
 
-/// Does what a message asks that was read.
-pub(crate) fn attend<D: Desk>(
+/// Does what a message asks.
+pub(crate) fn attend<Q: LendsParts + Drop, D: Desk>(
     alloc: Global,
     paths: &mut Option<Paths>,
-    got: Got,
+    got: Got<Q>,
     desk: &mut D,
 ) -> Attended
-    ensures { (text : List ℕ) (left : Option (List ℕ)) → GetsFrom text left got
+    ensures { (text : List ℕ) (left : Option (List ℕ)) → GetsLent Q.parts text left got
         → Attends D.asks D.commands desk.old text left desk.new result }
 {
     match got {
@@ -47,7 +48,7 @@ pub(crate) fn attend<D: Desk>(
             told,
             wants_close,
         } => {
-            let (endpoint, done) = do_request(alloc, paths, desk, &request, told);
+            let (endpoint, done) = do_request(alloc, paths, desk, &request.parts(), told);
             Attended::Done {
                 endpoint,
                 done,

@@ -3,7 +3,8 @@ use reg_leader::{Command, Reply};
 use reg_lookup::{Answer, Query};
 use std::alloc::{AllocError, Global};
 
-/// Answers queries and replies to commands, and says what each of them may do to it.
+/// A request handler: answers queries and carries out commands. Its clauses say what each call may
+/// do.
 pub trait Desk {
     ghost use Rattle.std.specs.Prelude.{Result};
     ghost use Rattle.std.specs.declared.alloc.AllocError.{AllocError};
@@ -18,11 +19,11 @@ pub trait Desk {
     /// The desk before, a command, what is replied, and the desk after.
     ghost commands: { Self → Command → Reply → Self → Type 0 };
 
-    /// The answer to a query. The only error is out of memory.
+    /// Answers a query. The only error is out of memory.
     fn ask(&mut self, alloc: Global, query: &Query) -> Result<Answer, AllocError>
         ensures { asks self.old query.now result self.new };
 
-    /// The reply to a command, once it is done or refused.
+    /// Carries out a command or refuses it, and returns the reply.
     fn command(&mut self, command: &Command) -> Reply
         ensures { commands self.old command.now result self.new };
 }

@@ -10,29 +10,30 @@ use reg_leader::Reply;
 use reg_lookup::Answer;
 use reg_records::{Device, Output};
 use reg_refusals::Refusal;
-use reg_requests::{Asked, Endpoint, Paths, Request, route_told};
+use reg_requests::{Asked, Endpoint, Paths, RequestParts, route_told};
 use reg_responses::{
     WriteFault, reply_status, write_answer, write_no_memory, write_refusal, write_reply,
 };
 use std::alloc::{AllocError, Global};
 
-/// What was done of a request.
+/// The result of a request, before the response is written.
 #[derive(Debug, Drop)]
 pub(crate) enum Done {
     Answered(Answer),
     Replied(Reply),
-    /// Whether the server closes the connection because of it.
+    /// A refusal; `closes` is whether the server closes the connection because of it.
     Refused { refusal: Refusal, closes: bool },
     /// Memory was refused.
     NoMemory,
 }
 
-/// Does what the request asks whose fields state a body of that length, or none, and says where the request goes.
+/// Does what a request asks, and returns its endpoint and the result. `told` is the length of the
+/// body that its fields state.
 pub(crate) fn do_request<D: Desk>(
     alloc: Global,
     paths: &mut Option<Paths>,
     desk: &mut D,
-    request: &Request,
+    request: &RequestParts<'_>,
     told: Option<u64>,
 ) -> (Endpoint, Done)
     ensures did { Did D.asks D.commands desk.old (asked_of_target request.now told) desk.new result.1 }
@@ -58,11 +59,12 @@ fn do_asked<D: Desk>(alloc: Global, desk: &mut D, asked: Asked) -> Done
     }
 }
 
-/// Where the request goes, and what it asks, by paths that are made where there are none, and kept.
+/// Returns the endpoint of a request and what it asks. Makes the router if there is none yet, and
+/// keeps it.
 fn asked_by(
     alloc: Global,
     paths: &mut Option<Paths>,
-    request: &Request,
+    request: &RequestParts<'_>,
     told: Option<u64>,
 ) -> Result<(Endpoint, Asked), AllocError>
     ensures endpoint { IfOk result (λ found. found.0 ≡ endpoint_of request.now.method request.now.target) }
@@ -72,12 +74,12 @@ fn asked_by(
         Some(kept) => kept,
         None => Paths::new(alloc)?,
     };
-    let endpoint = kept.endpoint(request.method.as_str(), request.target.as_str());
+    let endpoint = kept.endpoint(request.method(), request.target());
     *paths = Some(kept);
     Ok((endpoint, route_told(alloc, endpoint, request, told)?))
 }
 
-/// Writes the response to what was done, where the client wants the connection closed or not.
+/// Writes the response. `wants_close` is whether the client wants the connection closed.
 pub(crate) fn write_done<W: Output>(
     writer: &mut Device<W>,
     done: &Done,
@@ -94,7 +96,7 @@ pub(crate) fn write_done<W: Output>(
     }
 }
 
-/// Whether the server closes the connection after that response.
+/// Returns whether the server closes the connection after the response.
 pub(crate) fn closes_after(done: &Done, wants_close: bool) -> bool
     ensures { result ≡ done_closes wants_close done.now }
 {
@@ -104,7 +106,7 @@ pub(crate) fn closes_after(done: &Done, wants_close: bool) -> bool
     }
 }
 
-/// The status of that response.
+/// Returns the status of the response.
 pub(crate) fn status_of(done: &Done) -> u16
     ensures { result ≡ done_status done.now }
 {

@@ -2,7 +2,7 @@
 ghost use Rattle.std.specs.Prelude.{◌≡◌, ◌≤◌, ◌+◌, ◌*◌, ℕ, List, Bool, Option, IfOk, IfErr, IfSome, OnErr, OnOk};
 ghost use Rattle.std.specs.Io.KnownBytes.{Appends};
 ghost use Rattle.reg_records.specs.Device.{KeepsEnd, KeepsInterruptions, KeepsReads, all_reads_of, bytes_in, faults_of, interruptions_of, reads_of};
-ghost use Rattle.reg_messages.specs.Reading.{GetsFrom};
+ghost use Rattle.reg_messages.specs.Reading.{GetsLent};
 ghost use Rattle.reg_messages.specs.declared.limits.TheConstants.{REQUEST_READS};
 ghost use Rattle.reg_responses.specs.declared.limits.TheConstants.{INTERRUPTION_LIMIT};
 ghost use Rattle.reg_responses.specs.Writing.{IsLostBy, IsLostSince, LosesWriter};
@@ -15,36 +15,36 @@ use crate::desk::Desk;
 use crate::doing::{closes_after, status_of, write_done};
 use crate::limits::REQUESTS_LIMIT;
 use crate::outcome::RequestOutcome;
-use reg_messages::{Got, read_message};
+use reg_messages::{Got, LendsParts, read_message};
 use reg_records::{Device, Output};
 use reg_requests::Paths;
 use reg_responses::WriteFault;
 use std::alloc::Global;
 use std::io::BufRead;
 
-/// What a call of `serve` did.
+/// What a call of [`serve`] did.
 #[derive(Clone, Copy, Debug, PartialEq, Eq)]
 pub struct Served {
     /// How many responses were written.
     pub requests: u64,
 }
 
-/// Why a call of `serve` ended before its end.
+/// Why a call of [`serve`] failed.
 #[derive(Clone, Copy, Debug, PartialEq, Eq)]
 pub enum ServeError {
-    /// The reader failed, or was read as often as may be for one request. Each response before is
-    /// written whole.
+    /// The reader failed, or was read as often as is allowed for one request. Each response before
+    /// is written whole.
     ReadFault,
-    /// The writer failed, or was interrupted too often in a row. Each response before is written whole,
-    /// and a front of the last.
+    /// The writer failed, or was interrupted too often in a row. Each response before is written
+    /// whole, and a prefix of the last.
     WriteFault,
 }
 
-/// Answers the requests that `reader` gives, one after the other, up to a response that closes the
-/// connection, the end of the input, or as many as one call may answer.
+/// Answers the requests from `reader` one after the other. Ends after a response that closes the
+/// connection, at the end of the input, or after [`REQUESTS_LIMIT`] requests.
 ///
-/// Where memory is refused the response says so, and the next request is answered. The reads are
-/// counted anew for each request, and the writer's interruptions for each response.
+/// If memory is refused, the response says so, and the next request is answered. The reads are
+/// counted anew for each request, and the interruptions of the writer for each response.
 pub fn serve<R: BufRead, W: Output, D: Desk>(
     alloc: Global,
     reader: &mut Device<R>,
@@ -88,8 +88,8 @@ pub fn serve<R: BufRead, W: Output, D: Desk>(
     })
 }
 
-/// Answers the next request, and says what became of it; `None` where there is none. The count of reads begins anew at its front. The registry's paths are
-/// made at the first request, and are to be handed on to the next call.
+/// Answers the next request, and returns the result; `None` at the end of the input. The count of
+/// reads begins anew. The router is made at the first request; pass `paths` on to the next call.
 #[tactic(auto, using(reg_records::proofs::Ends::end_begun, reg_records::proofs::Ends::ends_then))]
 pub fn answer_next<R: BufRead, W: Output, D: Desk>(
     alloc: Global,
@@ -123,18 +123,19 @@ pub fn answer_next<R: BufRead, W: Output, D: Desk>(
     }
 }
 
-/// Answers a message that was read, and says what became of it; `None` where there is none. The only error is that the writer failed, or was interrupted too often in a row.
-pub fn answer_got<W: Output, D: Desk>(
+/// Answers a message that was read, and returns the result; `None` if there is none. Fails if the
+/// writer failed or was interrupted too often in a row.
+pub fn answer_got<Q: LendsParts + Drop, W: Output, D: Desk>(
     alloc: Global,
     paths: &mut Option<Paths>,
-    got: Got,
+    got: Got<Q>,
     writer: &mut Device<W>,
     desk: &mut D,
 ) -> Result<Option<RequestOutcome>, WriteFault>
     requires few { interruptions_of writer.old ≤ INTERRUPTION_LIMIT }
-    ensures step { (text : List ℕ) (left : Option (List ℕ)) → GetsFrom text left got → IfOk result (Steps D.asks D.commands desk.old text
+    ensures step { (text : List ℕ) (left : Option (List ℕ)) → GetsLent Q.parts text left got → IfOk result (Steps D.asks D.commands desk.old text
         (bytes_in W.contents writer.old) (bytes_in W.contents writer.new) left desk.new) }
-    ensures refused { (text : List ℕ) (left : Option (List ℕ)) → GetsFrom text left got → OnErr result (LosesStep D.asks D.commands
+    ensures refused { (text : List ℕ) (left : Option (List ℕ)) → GetsLent Q.parts text left got → OnErr result (LosesStep D.asks D.commands
         writer.old writer.new desk.old text (bytes_in W.contents writer.old) (bytes_in W.contents writer.new) desk.new) }
     ensures lost { OnErr result (LosesWriter writer.old writer.new × IsLostSince writer.old writer.new) }
     ensures faults { OnOk result (faults_of writer.new ≡ faults_of writer.old) }

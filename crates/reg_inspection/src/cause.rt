@@ -12,32 +12,33 @@ use std::alloc::{AllocError, Global};
 use std::error::Error;
 use std::fmt;
 
-/// Why a version's record can't be read; the first in this order is reported.
+/// The cause why a version's record can't be read. If several apply, the first in this order is
+/// reported.
 #[derive(Clone, Copy, Debug, PartialEq, Eq)]
 pub enum OpaqueCause {
-    /// Its text is no JSON object.
+    /// Its text isn't a JSON object.
     NotJson,
-    /// Its schema is one of Protocol Buffers.
+    /// Its schema is of type `PROTOBUF`.
     Protobuf,
-    /// Its schema is a JSON Schema.
+    /// Its schema is of type `JSON`.
     JsonSchema,
-    /// Its schema is of another type.
+    /// Its schema is of another type than Avro and those two.
     OtherType,
-    /// Its schema stands on others.
+    /// Its schema refers to others (`references`).
     References,
-    /// It has metadata.
+    /// It has metadata (`metadata`).
     Metadata,
-    /// It has rules.
+    /// It has rules (`ruleSet`).
     Rules,
     /// Its subject isn't that of its key.
     Subject,
     /// Its version isn't that of its key.
     Version,
-    /// Its id is no whole number from 1 to 2,147,483,647.
+    /// Its id isn't a whole number from 1 to 2,147,483,647.
     Id,
-    /// Its mark of deletion is neither true nor false.
+    /// Its mark of deletion (`deleted`) is neither true nor false.
     Deleted,
-    /// Its schema isn't there, or isn't an Avro schema.
+    /// Its schema is missing, or isn't an Avro schema.
     Schema,
 }
 
@@ -58,7 +59,7 @@ impl OpaqueCause {
     ghost use Rattle.std.specs.Prelude.{◌≡◌};
     ghost use Rattle.reg_inspection.specs.Cause.{cause_text};
 
-    /// What it is, as it is reported.
+    /// Returns its text, as reports show it.
     pub fn name(self) -> &'static str
         ensures { result.now ≡ cause_text self }
     {
@@ -79,8 +80,8 @@ impl OpaqueCause {
     }
 }
 
-/// Why a version's record can't be read; none where it can be, and for a record without a text or of another
-/// key. The only error is out of memory.
+/// Returns why a version's record can't be read; `None` if it can be, and for a record without a
+/// value or with another kind of key. The only error is out of memory.
 pub fn cause_of(alloc: Global, given: &Record) -> Result<Option<OpaqueCause>, AllocError>
     ensures { IfOk result (λ cause. cause ≡ cause_of given.now) }
 {
@@ -96,7 +97,7 @@ pub fn cause_of(alloc: Global, given: &Record) -> Result<Option<OpaqueCause>, Al
     }
 }
 
-/// What keeps a JSON value from being that version of the subject.
+/// Returns what keeps a JSON value from being that version of the subject.
 fn cause_in(
     alloc: Global,
     subject: &str,
@@ -117,7 +118,8 @@ fn cause_in(
     schema_cause(alloc, json)
 }
 
-/// What a version's value has that an Avro schema that stands alone has not.
+/// Returns what a version's value has that isn't read here: another type than Avro, references,
+/// metadata or rules.
 fn beyond_avro(json: &Json) -> Option<OpaqueCause>
     ensures { result ≡ beyond_avro (view json.now) }
 {
@@ -136,7 +138,7 @@ fn beyond_avro(json: &Json) -> Option<OpaqueCause>
     None
 }
 
-/// The cause that a type of schemas is, which isn't Avro.
+/// Returns the cause for a schema type other than Avro.
 fn type_cause(name: Option<&str>) -> OpaqueCause
     ensures { result ≡ option_map_or type_cause (option_map (λ s. s.now) name.entry) OpaqueCause.OtherType }
 {
@@ -147,7 +149,7 @@ fn type_cause(name: Option<&str>) -> OpaqueCause
     }
 }
 
-/// Which member beside a version's schema isn't taken.
+/// Returns the member beside the schema that isn't accepted, if any.
 fn beyond_numbers(json: &Json, subject: &str, version: u32) -> Option<OpaqueCause>
     ensures { result ≡ beyond_numbers subject.now version (view json.now) }
 {
@@ -166,7 +168,7 @@ fn beyond_numbers(json: &Json, subject: &str, version: u32) -> Option<OpaqueCaus
     None
 }
 
-/// Whether the schema isn't there, or can't be read.
+/// Returns `Schema` if the schema is missing or can't be read.
 fn schema_cause(alloc: Global, json: &Json) -> Result<Option<OpaqueCause>, AllocError>
     ensures { IfOk result (λ cause. cause ≡ schema_cause (view json.now)) }
 {

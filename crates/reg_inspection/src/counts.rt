@@ -10,16 +10,17 @@ use reg_fold::{Entry, Registry};
 use std::alloc::AllocError;
 use std::collections::BTreeSet;
 
-/// What a log holds, in numbers. Its versions are those of its last records that can be read.
+/// The counts of a log. Its versions are those of its last records that can be read.
 #[derive(Clone, Copy, Debug, PartialEq, Eq)]
 pub struct Counts {
-    /// Its records, superseded ones too.
+    /// All its records, superseded ones too.
     pub records: u64,
-    /// Its lines whose key is of no kind known here.
+    /// Its foreign lines: those whose key is of a kind unknown here.
     pub foreign: u64,
-    /// The offset that its first line says as its floor, or 0.
+    /// Its floor (low-water mark), which its first line says; 0 if it says none.
     pub floor: u64,
-    /// The next offset: the greater of the floor and of one more than the greatest offset of its lines.
+    /// Its next offset: the floor, or one more than the greatest offset of its lines, whichever is
+    /// greater.
     pub next: u64,
     /// The subjects with a version, soft-deleted ones too.
     pub subjects: u64,
@@ -31,7 +32,7 @@ pub struct Counts {
     pub ids: u64,
 }
 
-/// The counts of a log, over whose last records the registry is, which has those entries, of those ids.
+/// Counts a log. The registry is over its last records and has these entries with these ids.
 pub(crate) fn counts_of(
     log: &Log,
     registry: &Registry,
@@ -55,7 +56,8 @@ pub(crate) fn counts_of(
     })
 }
 
-/// The greatest id of a version, soft-deleted ones too, where no mark of ids covers it: that of the mark that is due.
+/// Returns the id of the mark that is due: the greatest id of a version, soft-deleted ones too, if
+/// no mark of ids covers it.
 pub(crate) fn mark_due(registry: &Registry) -> Option<u32>
     ensures { result ≡ mark_due registry.now }
 {
@@ -66,7 +68,7 @@ pub(crate) fn mark_due(registry: &Registry) -> Option<u32>
     None
 }
 
-/// How many subjects have an entry.
+/// Returns how many subjects have an entry.
 fn count_subjects(registry: &Registry) -> Result<u64, AllocError>
     ensures { IfOk result (λ n. n ≡ length (subjects (entries registry.now) true)) }
 {
@@ -74,7 +76,7 @@ fn count_subjects(registry: &Registry) -> Result<u64, AllocError>
     Ok(found.len() as u64)
 }
 
-/// How many of the entries are soft.
+/// Returns how many of the entries are soft-deleted.
 fn count_soft(entries: &[&Entry]) -> u64
     ensures { result ≡ count_by (λ e. e.now.soft) entries.now }
 {

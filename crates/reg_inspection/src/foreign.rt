@@ -17,7 +17,7 @@ use serde_json::Value as Json;
 use std::alloc::{AllocError, Global};
 use std::collections::BTreeMap;
 
-/// How many foreign lines each keytype has in a text, from which that log was read.
+/// Returns the number of foreign lines of each keytype in a text, from which that log was read.
 pub(crate) fn foreign_in(
     alloc: Global,
     text: &[u8],
@@ -33,7 +33,7 @@ pub(crate) fn foreign_in(
     tally_of(alloc, &keytypes)
 }
 
-/// The keytypes of the foreign lines at the front of a text that begins with so many lines.
+/// Returns the keytypes of the foreign lines among the first `count` lines of a text.
 fn keytypes_in(alloc: Global, text: &[u8], count: u64) -> Result<Vec<Option<Text>>, AllocError>
     ensures { (lines : List (List ℕ)) (read : List Read) → HasLines text.now lines read count
         → IfOk result (λ found. found.items ≡ foreign_keytypes lines) }
@@ -49,8 +49,8 @@ fn keytypes_in(alloc: Global, text: &[u8], count: u64) -> Result<Vec<Option<Text
     Ok(found)
 }
 
-/// Adds the keytype of the line at the front of a text, where that is foreign, and gives its length with its LF,
-/// unless it has a fault.
+/// Adds the keytype of the line at the front of a text if that is foreign. Returns its length in
+/// bytes, with its LF; `None` if it has a fault.
 fn push_front(
     alloc: Global,
     found: &mut Vec<Option<Text>>,
@@ -67,7 +67,7 @@ fn push_front(
     Ok(Some(len))
 }
 
-/// Adds the keytype of a line that says that, where it is foreign. It stands without its LF.
+/// Adds the keytype of a line (without its LF), which says `read`, if it is foreign.
 fn push_keytype(
     alloc: Global,
     found: &mut Vec<Option<Text>>,
@@ -85,7 +85,7 @@ fn push_keytype(
     }
 }
 
-/// The text `keytype` of a line's key, where it has one. The line stands without its LF.
+/// Returns the text `keytype` of the key of a line (without its LF), if it has one.
 fn keytype_in(alloc: Global, line: &[u8]) -> Result<Option<Text>, AllocError>
     ensures { (read : Read) → reading line.now ≡ Ok read → IfOk result (λ keytype. keytype ≡ keytype_in line.now) }
 {
@@ -117,7 +117,7 @@ fn keytype_at(alloc: Global, json: &Json) -> Result<Option<Text>, AllocError>
     }
 }
 
-/// The second of a line's fields.
+/// Returns the second field of a line.
 fn key_in(line: &str) -> Option<&str>
     ensures { option_map (λ key. key.now) result ≡ slice_get (slice_split is_tab line.now) 1 }
 {
@@ -127,7 +127,7 @@ fn key_in(line: &str) -> Option<&str>
     }
 }
 
-/// The first of a text's fields.
+/// Returns the first field of a text.
 fn first_field(text: &str) -> &str
     ensures { slice_get (slice_split is_tab text.now) 0 ≡ Some result.now }
 {
@@ -137,7 +137,7 @@ fn first_field(text: &str) -> &str
     }
 }
 
-/// How often each of some keytypes is among them.
+/// Counts each of the keytypes.
 fn tally_of(
     alloc: Global,
     keytypes: &[Option<Text>],

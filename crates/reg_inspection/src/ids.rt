@@ -9,7 +9,7 @@ use reg_fold::{Entry, Registry};
 use std::alloc::{AllocError, Global};
 use std::collections::BTreeSet;
 
-/// The ids of some entries.
+/// Returns the ids of some entries.
 pub(crate) fn ids_of(alloc: Global, entries: &[&Entry]) -> Result<BTreeSet<u32>, AllocError>
     ensures { IfOk result (λ ids. ids.keys ≡ ids_of (map (λ e. e.now) entries.now)) }
 {
@@ -20,7 +20,7 @@ pub(crate) fn ids_of(alloc: Global, entries: &[&Entry]) -> Result<BTreeSet<u32>,
     Ok(ids)
 }
 
-/// Those of a registry's ids that name two schemas, in ascending order.
+/// Returns those of a registry's ids that name two schemas, in ascending order.
 pub(crate) fn shared_ids(
     alloc: Global,
     registry: &Registry,
@@ -38,7 +38,7 @@ pub(crate) fn shared_ids(
     Ok(found)
 }
 
-/// Whether two of the entries have different normal texts.
+/// Returns whether two of the entries have different normal texts.
 fn are_apart(entries: &[&Entry]) -> bool
     ensures { result ≡ are_apart (map (λ e. e.now) entries.now) }
 {

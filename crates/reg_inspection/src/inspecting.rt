@@ -12,9 +12,13 @@ use reg_fold::reg_records::{LogError, Output};
 use std::alloc::Global;
 use std::io::Read;
 
-/// Reads a log to the end of the input, writes what it holds and what keeps it from being served, a line a fact, and
-/// says whether nothing does. What stands behind the log's empty line is left out, but a line that says where the log ends
-/// has to be right. The log is read to its end before the first byte is written.
+/// Reads a log to the end of the input and writes its inspection, a line for each fact. Returns
+/// whether nothing keeps the log from being served.
+///
+/// The whole input is read before the first byte is written. What is behind the log's empty line is
+/// left out; if it is a line that says where the log ends and it is wrong, the log is refused
+/// (`Cut`). Errors are those of filters: a faulty log, a reader or writer that failed, or no
+/// memory.
 pub fn inspect<R: Read, W: Output>(
     alloc: Global,
     reader: &mut R,

@@ -17,21 +17,23 @@ use reg_fold::reg_records::{Device, Log, LogError, quoted, read_log};
 use std::alloc::{AllocError, Global};
 use std::collections::BTreeMap;
 
-/// What a log holds, and what keeps it from being taken over.
+/// The inspection of a log: what it holds, and what keeps it from being served.
 #[derive(Debug, Drop)]
 pub struct Inspection {
     pub counts: Counts,
-    /// The id of the mark of ids that is due; `None` where none is.
+    /// The id of the mark of ids (a record of the highest id ever given) that is due; `None` if
+    /// none is.
     pub due: Option<u32>,
-    /// How many foreign lines have each keytype; `None` stands for keys that have none.
+    /// The number of foreign lines (of kinds unknown here) of each keytype; `None` is the key of
+    /// those without one.
     pub foreign: BTreeMap<Option<Text>, u64>,
     pub obstacles: Vec<Obstacle>,
 }
 
 impl Inspection {
-    /// Its text, a line a fact: the counts, each as `NAME: NUMBER`, then the mark of ids that is due, then the foreign
-    /// lines by their keytypes, likewise, then the obstacles, those of versions with their causes. The only error is out
-    /// of memory.
+    /// Returns its text, a line for each fact: the counts as `NAME: NUMBER`, the mark of ids that
+    /// is due, the foreign lines by keytype, and the obstacles, those of versions with their
+    /// causes. The only error is out of memory.
     pub fn report(&self, alloc: Global) -> Result<String, AllocError>
         ensures { IfOk result (λ text. string_bytes text ≡ report_text self.now.counts self.now.due self.now.foreign.entries self.now.obstacles.items) }
     {
@@ -42,7 +44,7 @@ impl Inspection {
         Ok(text)
     }
 
-    /// Whether nothing keeps the log from being taken over.
+    /// Returns whether nothing keeps the log from being served.
     pub fn is_servable(&self) -> bool
         ensures { result ≡ (length self.now.obstacles.items == 0) }
     {
@@ -50,8 +52,8 @@ impl Inspection {
     }
 }
 
-/// Reads a log, and says what it holds and what keeps it from being taken over. What follows the log's empty line is
-/// left out.
+/// Inspects a log: reads it, and returns what it holds and what keeps it from being served. What
+/// follows the log's empty line is left out. Errors: the first line with a fault, or out of memory.
 pub fn inspected(alloc: Global, text: &[u8]) -> Result<Inspection, LogError>
     ensures inspected { IfOk result (λ found. (log : LogText) × (log_of text.now ≡ Ok log) × IsInspectionOf text.now log.floor log.reads found) }
     ensures fault { IfErr result (HasFault text.now) }
@@ -61,7 +63,7 @@ pub fn inspected(alloc: Global, text: &[u8]) -> Result<Inspection, LogError>
     Ok(inspection_of(alloc, &log, foreign)?)
 }
 
-/// What a log that was read holds, which has those foreign lines.
+/// Inspects a log that was read and has those foreign lines.
 fn inspection_of(
     alloc: Global,
     log: &Log,

@@ -6,20 +6,20 @@ ghost use Rattle.reg_inspection.specs.Shared.{SharedIdsNameTwo, SharedIdsRise};
 
 use reg_fold::two_schemas_is_least;
 
-/// A record has a cause exactly where it is opaque.
+/// States that a record has a cause exactly if it can't be read.
 pub fn causes_are_of_opaque()
     ensures { CausesAreOfOpaque }
 {}
 
-/// The ids that name two schemas rise, and an id is among them exactly where two entries of it have different normal
-/// texts.
+/// States that the ids that name two schemas rise, and that an id is among them exactly if two
+/// entries with it have different normal texts.
 pub fn shared_ids_name_two()
     ensures rise { SharedIdsRise }
     ensures name { SharedIdsNameTwo }
 {}
 
-/// Nothing keeps a log from being taken over exactly where the registry over its last records takes commands, and a mark
-/// of ids that is due has an offset.
+/// States that there is no obstacle exactly if the registry over a log's last records takes
+/// commands, and a mark of ids that is due has an offset.
 pub fn no_obstacle_is_open()
     ensures { NoObstacleIsOpen }
 {
@@ -28,7 +28,7 @@ pub fn no_obstacle_is_open()
     two_schemas_is_least();
 }
 
-/// The keytypes of a tally rise, and a keytype is in it exactly where it was tallied.
+/// States that the keytypes of a tally rise, and that a keytype is in it exactly if it was counted.
 pub fn tallies_have_each_keytype()
     ensures rise { TalliesRise }
     ensures each { TalliesHaveEach }

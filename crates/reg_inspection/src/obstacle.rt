@@ -17,19 +17,19 @@ use reg_fold::reg_set::{RecordSet, last_records_are_enough};
 use std::alloc::{AllocError, Global};
 use std::collections::BTreeSet;
 
-/// What keeps a log from being taken over by a topic.
+/// An obstacle: something that keeps a log from being taken over by a server's topic.
 #[derive(Debug, Drop, PartialEq, Eq)]
 pub enum Obstacle {
-    /// The last record of a version can't be read.
+    /// The last record of a version can't be read: its offset, the version, and the first cause.
     Opaque {
         offset: u64,
         subject: Text,
         version: u32,
         cause: OpaqueCause,
     },
-    /// The id names two schemas, soft versions counted.
+    /// This id names two schemas, those of soft-deleted versions included.
     TwoSchemas(u32),
-    /// A mark of ids is due, and no offset is left for it.
+    /// A mark of ids (a record of the highest id ever given) is due, and no offset is left for it.
     NumbersUsedUp,
 }
 
@@ -37,7 +37,7 @@ impl Obstacle {
     ghost use Rattle.std.specs.Prelude.{◌≡◌, IfOk, string_bytes};
     ghost use Rattle.reg_inspection.specs.Obstacles.{obstacle_text};
 
-    /// What it is, without the cause: a line without its LF. The only error is out of memory.
+    /// Returns its text without the cause: a line without its LF. The only error is out of memory.
     pub fn text(&self, alloc: Global) -> Result<String, AllocError>
         ensures { IfOk result (λ text. string_bytes text ≡ obstacle_text self.now) }
     {
@@ -68,7 +68,7 @@ fn opaque_text(
     format!(in alloc; "opaque record at {offset}: subject {subject}, version {version}")
 }
 
-/// A text as it stands in a line: as a JSON string where it would break the line.
+/// Returns a text for a line of the report: as a JSON string if it would break the line.
 fn shown(alloc: Global, text: &str) -> Result<String, AllocError>
     ensures { IfOk result (λ written. string_bytes written ≡ shown text.now) }
 {
@@ -78,16 +78,17 @@ fn shown(alloc: Global, text: &str) -> Result<String, AllocError>
     quoted(alloc, text)
 }
 
-/// Whether a text has neither a control character nor a quotation mark.
+/// Returns whether a text has neither a control character nor a quotation mark.
 fn is_plain(text: &str) -> bool
     ensures { result ≡ is_plain text.now }
 {
     text.as_bytes().iter().all(|b| *b >= 32 && *b != b'"')
 }
 
-/// All that keeps a log from being taken over: the versions whose last records can't be read, by their offsets,
-/// then the ids that name two schemas, in ascending order, then that a mark of ids is due without an offset left for
-/// it. There is nothing exactly where the log is adopted. The only error is out of memory.
+/// Returns all obstacles of a log: the versions whose last records can't be read, by their offsets;
+/// then the ids that name two schemas, in ascending order; then a mark of ids that is due without
+/// an offset left for it. The list is empty exactly if the log may be taken over. The only error is
+/// out of memory.
 pub fn obstacles(alloc: Global, log: &Log) -> Result<Vec<Obstacle>, AllocError>
     ensures all { IfOk result (λ found. found.items ≡ obstacles (last_records (from_list log.now.records.items)) log.now.next) }
     ensures none { IfOk result (λ found. (found.items ≡ []) ↔ (can_begin (last_records (from_list log.now.records.items)) log.now.next ≡ true)) }
@@ -98,7 +99,7 @@ pub fn obstacles(alloc: Global, log: &Log) -> Result<Vec<Obstacle>, AllocError>
     obstacles_in(alloc, &last, &registry, &ids, log.next)
 }
 
-/// The last records of some records, and the registry over them.
+/// Returns the last records of some records, and the registry over them.
 pub(crate) fn lasts_of(
     alloc: Global,
     records: &[Record],
@@ -113,7 +114,8 @@ pub(crate) fn lasts_of(
     Ok((last, registry))
 }
 
-/// Those of the last records, over which the registry is, whose ids are these, before that next offset.
+/// Returns the obstacles of last records, over which the registry is, with these ids and that next
+/// offset.
 pub(crate) fn obstacles_in(
     alloc: Global,
     last: &RecordSet,
@@ -133,7 +135,7 @@ pub(crate) fn obstacles_in(
     Ok(found)
 }
 
-/// Whether a mark of ids is due, and no offset is left for it.
+/// Returns whether a mark of ids is due, and no offset is left for it.
 fn has_no_place(registry: &Registry, next: u64) -> bool
     ensures { result ≡ has_no_place registry.now next }
 {

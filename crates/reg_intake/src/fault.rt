@@ -4,7 +4,7 @@ use std::alloc::AllocError;
 use std::error::Error;
 use std::fmt;
 
-/// Why lines that come aren't read any more.
+/// An error of reading a log's lines as they come.
 #[derive(Clone, Copy, Debug, PartialEq, Eq)]
 pub enum IntakeError {
     /// The first line that has a fault; lines count from 1, up to `u64::MAX`.

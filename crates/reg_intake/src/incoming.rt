@@ -13,26 +13,27 @@ use reg_records::{
 use std::alloc::{AllocError, Global};
 use std::marker::Model;
 
-/// What came next of a log.
+/// The next thing that came of a log.
 #[derive(Debug, Drop)]
 pub enum Came {
-    /// A line, which says this.
+    /// A line, and what it says.
     Line(Read),
     /// The first line, which says the log's floor.
     Floor,
-    /// The empty line, which ends the log. It stays where it is.
+    /// The empty line, which ends the log. It isn't passed: the next call returns it again.
     End,
-    /// No whole line has come.
+    /// No whole line has come yet.
     Nothing,
 }
 
-/// Bytes of a log that came, of which each whole line is read once. Contracts see the bytes that no line was
-/// read of, and how many lines were read.
+/// A buffer of the bytes of a log as they come, which gives each whole line once.
+///
+/// Contracts see the bytes that no line was read of, and how many lines were read.
 #[derive(Drop)]
 pub struct Incoming {
     alloc: Global,
     held: Vec<u8>,
-    /// How many of the bytes that are held were read.
+    /// How many of the held bytes were read.
     passed: usize,
     /// How many lines were read, up to `u64::MAX`.
     count: u64,
@@ -49,7 +50,7 @@ impl Model for Incoming {
 }
 
 impl Incoming {
-    /// Nothing has come.
+    /// Makes a buffer to which nothing has come.
     pub fn new(alloc: Global) -> Incoming
         ensures { HasRead [] [] result }
     {
@@ -61,14 +62,14 @@ impl Incoming {
         }
     }
 
-    /// How many lines were read, up to `u64::MAX`.
+    /// Returns how many lines were read, up to `u64::MAX`.
     pub fn count(&self) -> u64
         ensures { result ≡ self.now.count }
     {
         self.count
     }
 
-    /// Whether a line was read of each byte that came.
+    /// Returns whether nothing is unread.
     pub fn is_empty(&self) -> bool
         ensures { MatchBool result (self.now.bytes ≡ []) (0 < length self.now.bytes) }
     {
@@ -81,7 +82,7 @@ impl Incoming {
         &self.held[self.passed..]
     }
 
-    /// Takes bytes that came behind those before. The only error is out of memory; all is then as it was.
+    /// Appends bytes that came. The only error is out of memory, with nothing changed.
     pub fn take(&mut self, bytes: &[u8]) -> Result<(), AllocError>
         ensures taken { OnOk result (self.new ≡ with_bytes self.old bytes.now) }
         ensures read { (text : List ℕ) (read : List Read) → HasRead text read self.old → OnOk result (HasRead (text ++ bytes.now) read self.new) }
@@ -96,8 +97,9 @@ impl Incoming {
         Ok(())
     }
 
-    /// Reads the next line, if it is whole. A line past its limit is refused before its LF has come. After an
-    /// error all is as it was, and the next call gives the same error, unless memory was refused.
+    /// Reads the next line, if it is whole. A line over the limit is refused before its LF has
+    /// come. An error changes nothing, and the next call returns it again, unless memory was
+    /// refused.
     pub fn next(&mut self) -> Result<Came, IntakeError>
         ensures came { (text : List ℕ) (read : List Read) → HasRead text read self.old → IfOk result (λ came. Comes text read self.old came self.new) }
         ensures refused { IfErr result (IsRefusal self.old) }
@@ -123,7 +125,7 @@ impl Incoming {
     }
 }
 
-/// What a line with its LF says, or what is wrong with it; so many lines stand before it.
+/// Returns what a line (with its LF) says, or its fault. `before` is the number of lines before it.
 fn came_at(alloc: Global, bytes: &[u8], before: u64) -> Result<Came, IntakeError>
     ensures came { (line : List ℕ) → bytes.now ≡ line ++ 10 ∷ [] → HasNoLineFeed line → IfOk result (λ came. said_at before line ≡ Ok came) }
     ensures refused { (line : List ℕ) → bytes.now ≡ line ++ 10 ∷ [] → HasNoLineFeed line → IfErr result (IsLineFault before line) }
@@ -145,7 +147,7 @@ fn came_at(alloc: Global, bytes: &[u8], before: u64) -> Result<Came, IntakeError
     }
 }
 
-/// Whether a line says a floor, or should: so many lines stand before it.
+/// Returns whether a line says a floor, or should. `before` is the number of lines before it.
 fn says_floor(before: u64, line: &[u8]) -> bool
     ensures { result ≡ (nat_eq before 0 && is_floor_line line.now) }
 {

@@ -7,10 +7,10 @@ use crate::incoming::Incoming;
 use std::alloc::AllocError;
 use std::io::{BufRead, ErrorKind};
 
-/// Why a read gave nothing.
+/// An error of [`Pieces::give_to`].
 #[derive(Clone, Copy, Debug, PartialEq, Eq)]
 pub enum GiveError {
-    /// The reader answered an error of that kind.
+    /// The reader returned an error of that kind.
     Read(ErrorKind),
     OutOfMemory,
 }
@@ -26,17 +26,18 @@ impl From<AllocError> for GiveError {
     }
 }
 
-/// A reader whose errors contracts name, as any reader is.
+/// A reader whose bytes are taken as they come. Every `BufRead` is one.
 ///
-/// Which errors a read may answer is a relation that a function over any `B: Pieces` knows nothing of. So where its
-/// contract speaks of an error of the reader, it can't make one up.
+/// Which errors a read may return is the relation `fails`. A function over any `B: Pieces` knows
+/// nothing of it, so if its contract speaks of an error of the reader, it can't make one up.
 pub trait Pieces: BufRead {
     ghost use Rattle.std.specs.declared.io.ErrorKind.{ErrorKind};
 
     /// The reader before, the kind of the error that a read answered, and the reader after.
     ghost fails: { Self → ErrorKind → Self → Type 0 };
 
-    /// Takes all that one read gives, behind the bytes that came before, and says how many bytes; none at the end.
+    /// Appends all that one read gives to `incoming`, and returns how many bytes; 0 at the end.
+    /// After an error nothing was taken.
     fn give_to(&mut self, incoming: &mut Incoming) -> Result<usize, GiveError>
         ensures given { IfOk result (Gives (Self.remaining self.old) (Self.remaining self.new) incoming.old incoming.new) }
         ensures kept { OnErr result (Keeps (Self.remaining self.old) (Self.remaining self.new)) }

@@ -47,14 +47,18 @@ impl SharedCheck {
         self.wanted.load(Ordering::SeqCst)
     }
 
-    /// Begins a check if a lookup waits for one, or if none was begun for `every`, and returns its
-    /// number. The caller then takes in what was told, asks the chain, publishes the result, and
-    /// calls `done`.
-    pub fn begin<R: Wait + Clock>(&self, rt: &R, every: Duration) -> Option<u64> {
+    /// Begins a check if a lookup waits for one, or if none was begun for `every`; for `None`, in
+    /// the first case alone. Returns its number. The caller then takes in what was told, asks the
+    /// chain, publishes the result, and calls `done`.
+    pub fn begin<R: Wait + Clock>(&self, rt: &R, every: Option<Duration>) -> Option<u64> {
         let now = Instant::now(rt).ok();
         let mut rounds = self.rounds.lock(rt);
         let is_wanted = self.wanted.swap(false, Ordering::SeqCst);
-        if !is_wanted && !rounds.is_due(now, every) {
+        let is_due = match every {
+            Some(every) => rounds.is_due(now, every),
+            None => false,
+        };
+        if !is_wanted && !is_due {
             return None;
         }
         let round = rounds.begin(now);

@@ -14,9 +14,6 @@ use std::sync::{Mutex, Wait};
 use std::thread::Parker;
 use std::time::{Clock, Duration};
 
-/// A check is made if none was for this long, in seconds.
-const CHECK_EVERY: u64 = 5;
-
 /// Takes in what is told, and makes the checks that lookups wait for. The pen publishes it, and all
 /// ports show the pen's list.
 #[derive(Drop)]
@@ -33,6 +30,8 @@ pub(crate) struct Following<
     pub(crate) pen: &'a Mutex<JoinedPen<N, S, C, R>>,
     pub(crate) taker: &'a Mutex<Taker<N, S, C>>,
     pub(crate) check: &'a SharedCheck,
+    /// A check is made if none was for this long; `None` makes those alone that lookups wait for.
+    pub(crate) every: Option<Duration>,
     pub(crate) watch: &'a W,
 }
 
@@ -96,7 +95,7 @@ impl<
 > Follow for Following<'a, N, S, C, R, W> {
     fn follow(&self) {
         self.line.end_stalls(self.rt);
-        let round = self.check.begin(self.rt, Duration::from_secs(CHECK_EVERY));
+        let round = self.check.begin(self.rt, self.every);
         if round.is_some() || self.line.has_due() || self.check.has_stopped() {
             self.take(round.is_some());
         }

@@ -49,8 +49,9 @@ const CHECKED_WITHIN: u64 = 1;
 /// Serves a log that other processes write too. The adapter tells it on `reader`, and is asked to
 /// append on `writer`. First comes the base, then what is behind it; the ports listen once all that
 /// was told before `ready` is taken in. A port has from 2 to 16 workers, of which all but one may
-/// wait for the log. `traffic` counts the connections and requests of all ports, and `overhear`
-/// hears all messages to and from the adapter.
+/// wait for the log. The log is asked for news if it wasn't for `every`; for `None`, only if a lookup
+/// waits for them. `traffic` counts the connections and requests of all ports, and `overhear` hears
+/// all messages to and from the adapter.
 ///
 /// With a limit the call returns once all ports have ended. Without one it returns once the adapter
 /// tells no more; after `ready`, the end of the input isn't an error.
@@ -68,6 +69,7 @@ pub fn serve_joined<
     rt: R,
     alloc: Global,
     size: Size,
+    every: Option<Duration>,
     reader: B,
     writer: O,
     overhear: &Arc<H, Global>,
@@ -85,6 +87,7 @@ pub fn serve_joined<
         &rt,
         alloc,
         joined_size(size),
+        every,
         Unnamed::new(),
         base,
         &mut adapter,
@@ -117,6 +120,7 @@ fn serve_base<
     rt: &R,
     alloc: Global,
     size: Size,
+    every: Option<Duration>,
     list: Unnamed<Item>,
     base: Base,
     adapter: &mut Option<Adapter<B, O>>,
@@ -138,7 +142,9 @@ fn serve_base<
     if let Some(Adapter { reader, writer }) = adapter.take() {
         start_talking(*rt, alloc, reader, writer, &line, overhear)?;
     }
-    serve_history(rt, alloc, size, &line, &mut held, traffic, watch, endpoints)
+    serve_history(
+        rt, alloc, size, every, &line, &mut held, traffic, watch, endpoints,
+    )
 }
 
 /// The line to an adapter, and two ends of the chain behind it.
@@ -213,6 +219,7 @@ fn serve_history<
     rt: &R,
     alloc: Global,
     size: Size,
+    every: Option<Duration>,
     line: &AdapterLine,
     held: &mut Held<N, S, C, R>,
     traffic: &Traffic,
@@ -222,7 +229,9 @@ fn serve_history<
     requires floor { N.first.kept.floor ≤ N.first.next }
 {
     take_history(rt, line, held.taker.get_mut(), held.pen.get_mut(), watch)?;
-    serve_held(rt, alloc, size, line, held, traffic, watch, endpoints)?;
+    serve_held(
+        rt, alloc, size, every, line, held, traffic, watch, endpoints,
+    )?;
     match end_of(rt, line) {
         LineEnd::Input => Ok(()),
         end => Err(JoinError::Adapter(end)),
@@ -242,6 +251,7 @@ fn serve_held<
     rt: &'a R,
     alloc: Global,
     size: Size,
+    every: Option<Duration>,
     line: &'a AdapterLine,
     held: &mut Held<N, S, C, R>,
     traffic: &Traffic,
@@ -261,6 +271,7 @@ fn serve_held<
         pen: &held.pen,
         taker: &held.taker,
         check: &check,
+        every,
         watch,
     };
     let mut desks = make_desks(&following, alloc, size, &waits, &mut passes, keys)?;

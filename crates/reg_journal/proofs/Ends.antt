@@ -1,7 +1,7 @@
 -- Where the empty line of a file stands, and one LF more.
 use Rattle.std.proofs.Common.{◌≡◌, ⊎_elim, ◌<◌, ◌≤◌, ◌+◌, ◌-◌, ℕ, zero, suc, List, [], ◌∷◌, ◌++◌, length, take, drop, Result, Ok, Err, refl}
 use Rattle.std.proofs.Common.{sym, ap, subst, ◌∙◌, arith, append_assoc, append-nil, length-append, count_by, cond, if◌then◌else◌}
-use Rattle.std.proofs.Common.{false, ◌==◌}
+use Rattle.std.proofs.Common.{false, true, ◌==◌}
 use Rattle.std.proofs.lemmas.Bool.Decides.{nat_tests}
 use Rattle.std.proofs.lemmas.List.Sums.{sum_by-cons}
 use Rattle.std.proofs.lemmas.List.{take_at, take_all, drop_all}
@@ -136,8 +136,13 @@ written_past file bytes c n is holds =
     ∙ append-nil (file ++ bytes)
 
 -- nothing is left: with one LF more the file is a log
-pub nothing_left : (file : List ℕ) (log : LogText) → log_of (file ++ 10 ∷ []) ≡ Ok log → HasNoEmptyLine file
-nothing_left file log is = (record { floor = log.floor; reads = log.reads }, ap said_in is)
+none_in : (xs : List ℕ) → (length xs == 0) ≡ true → length xs ≡ 0
+none_in xs is = grind (arith, nat_tests)
+
+pub nothing_left : (file : List ℕ) (log : LogText) (left : List ℕ) → log_of (file ++ 10 ∷ []) ≡ Ok log → left ≡ log.rest
+    → (length left == 0) ≡ true → HasNoEmptyLine file
+nothing_left file log [] is same none = (log, is, sym same)
+nothing_left file log (b ∷ left) is same none = absurd (omega (arith, none_in (b ∷ left) none))
 
 -- a file in which something was found says it
 pub says_found : (file : List ℕ) (r : Result Found JournalOpenError) → IfOk r (IsFound file)

@@ -1,5 +1,5 @@
 // The log of a file that has an empty line, and what stands behind that line.
-ghost use Rattle.std.specs.Prelude.{◌≡◌, ◌^◌, ◌<◌, IfErr, IfOk, if◌then◌else◌};
+ghost use Rattle.std.specs.Prelude.{◌≡◌, ◌≢◌, ◌^◌, ◌<◌, IfErr, IfOk, if◌then◌else◌};
 ghost use Rattle.reg_records.specs.Floor.{is_floor_line};
 ghost use Rattle.reg_journal.specs.Found.{IsFound, IsLookRefusal};
 
@@ -12,6 +12,7 @@ pub(crate) fn read_ended(alloc: Global, bytes: Vec<u8>) -> Result<Found, Journal
     ensures found { IfOk result (IsFound bytes.items) }
     ensures within { IfOk result (λ found. found.end < 2 ^ 63) }
     ensures refused { IfErr result (IsLookRefusal bytes.items) }
+    ensures itself { IfErr result (λ e. e ≢ JournalOpenError.Failed) }
 {
     // With an LF more at the end, what is left unread behind an empty line isn't empty.
     let mut bytes = bytes;
@@ -33,7 +34,7 @@ pub(crate) fn read_ended(alloc: Global, bytes: Vec<u8>) -> Result<Found, Journal
     })
 }
 
-/// How many lines of a log say its floor, in a text that begins with it: one or none.
+/// Returns how many lines say the floor in a text that begins with a log: one or none.
 fn floor_lines(text: &[u8]) -> u64
     ensures { result ≡ (if is_floor_line text.now then 1 else 0) }
 {

@@ -17,23 +17,24 @@ use reg_records::{LOG_LINES, Record, WriteLineError};
 use std::alloc::{AllocFailed, Global};
 use std::marker::Model;
 
-/// Why a batch isn't acknowledged.
+/// An error of [`Journal::append`]: the reason why the batch isn't acknowledged.
 #[derive(Clone, Copy, Debug, PartialEq, Eq)]
 pub enum AppendError {
     /// A record's line is longer than a line may be. Nothing was written.
     LineTooLong,
     /// The log would have more lines than a log may. Nothing was written.
     TooManyLines,
-    /// Nothing was written.
+    /// Memory was refused. Nothing was written.
     OutOfMemory,
-    /// The file hasn't the length that it was left with. Nothing is written any more.
+    /// The file's length isn't the one that the journal left, or is too large to append to. The
+    /// journal is broken.
     Changed,
-    /// The path doesn't name the file any more: it was renamed, removed or replaced. The batch is in a file that a restart may
-    /// not find. Nothing is written any more.
+    /// The path doesn't name the file any more: it was renamed, removed or replaced. The batch is
+    /// in a file that a restart may not find. The journal is broken.
     Unnamed,
-    /// The disk failed, or is full: the batch may be there or not. Nothing is written any more.
+    /// The disk failed or is full: the batch may be in the file or not. The journal is broken.
     Failed,
-    /// An earlier batch met `Changed`, `Unnamed` or `Failed`.
+    /// The journal was broken before the call. Nothing was written.
     Broken,
 }
 
@@ -78,10 +79,11 @@ impl<T: Drop> From<AllocFailed<T>> for AppendError {
     }
 }
 
-/// The log of a file, to which batches are appended.
+/// The log of a file, to which batches are appended. A *broken* journal takes no batch any more.
 ///
-/// Contracts see its disk, where the file's empty line stands, how many lines stand before that, and whether it takes no
-/// batch any more. Until then its file is such lines, all of it on the disk.
+/// Contracts see its disk, the offset of the file's empty line in bytes, the number of lines before
+/// it, and whether it is broken. Until it is, its file is those lines and the empty one, all of it
+/// on the disk.
 #[derive(Drop)]
 pub struct Journal<D: Disk> {
     disk: D,
@@ -102,7 +104,8 @@ impl<D: Disk> Model for Journal<D> {
 }
 
 impl<D: Disk> Journal<D> {
-    /// The journal of a file whose log was found there, with nothing behind its empty line.
+    /// Makes the journal of a file whose log was found, with nothing behind its empty line: `end`
+    /// is the empty line's place in bytes, `lines` the number of lines before it.
     pub fn over(disk: D, end: usize, lines: u64) -> Journal<D>
         requires known { D.is_modelled → D.known disk }
         requires steady { D.is_modelled → IsSteady D.seen D.may_leave disk end lines }
@@ -116,13 +119,14 @@ impl<D: Disk> Journal<D> {
         }
     }
 
+    /// Returns its disk.
     pub fn disk(&self) -> &D
         ensures { result.now ≡ self.now.disk }
     {
         &self.disk
     }
 
-    /// The disk, for whoever goes on with it.
+    /// Returns its disk and drops the journal.
     pub fn into_disk(self) -> D
         ensures { result ≡ self.disk }
     {
@@ -135,36 +139,41 @@ impl<D: Disk> Journal<D> {
         disk
     }
 
-    /// Where the file's empty line stands.
+    /// Returns the place of the file's empty line, in bytes from the file's start.
     pub fn end(&self) -> usize
         ensures { result ≡ self.now.end }
     {
         self.end
     }
 
-    /// How many lines stand before it.
+    /// Returns the number of lines before the empty one.
     pub fn lines(&self) -> u64
         ensures { result ≡ self.now.lines }
     {
         self.lines
     }
 
-    /// Whether it takes no batch any more.
+    /// Returns whether it is broken: it takes no batch any more.
     pub fn is_broken(&self) -> bool
         ensures { result ≡ self.now.is_broken }
     {
         self.is_broken
     }
 
-    /// That its file is so many lines and an empty one, all of it on the disk, unless it is broken. It costs nothing.
+    /// States that its file is so many lines and an empty one, all of it on the disk, unless it is
+    /// broken. Costs nothing at run time.
     pub fn is_steady(&self)
         ensures { D.is_modelled → IsReady D.known D.seen D.may_leave self.now }
     {
         let _sound = !self.is_broken;
     }
 
-    /// Adds the batch's lines, all of them or none, where so many lines stay free behind them. At `Ok` they are acknowledged:
-    /// from then on each crash leaves a file that has them, and the path named that file once they were on the disk.
+    /// Appends the batch's lines, all of them or none, and syncs them. `Ok` acknowledges the batch:
+    /// from then on each crash leaves a file that has it, and the path named that file after the
+    /// sync. `free` lines of the limit stay unused (`TooManyLines` otherwise).
+    ///
+    /// After `LineTooLong`, `TooManyLines` and `OutOfMemory` the journal is as it was; after
+    /// `Changed`, `Unnamed` and `Failed` it is broken; a broken one returns `Broken`.
     pub fn append(&mut self, alloc: Global, batch: &[Record], free: u64) -> Result<(), AppendError>
         requires { All HasLine batch.now }
 
@@ -203,7 +212,7 @@ impl<D: Disk> Journal<D> {
         Ok(())
     }
 
-    /// All the bytes of the file. It changes nothing, though it fails.
+    /// Returns all bytes of the file. Changes nothing, even if it fails.
     pub fn read(&mut self, alloc: Global) -> Result<Vec<u8>, DiskError>
         ensures bytes { D.is_modelled → self.old.is_broken ≡ false → IfOk result (λ bytes. bytes.items ≡ D.seen self.old.disk) }
         ensures same { self.new ≡ record self.old { disk = self.new.disk } }
@@ -214,7 +223,7 @@ impl<D: Disk> Journal<D> {
         self.disk.read(alloc)
     }
 
-    /// Takes no batch any more.
+    /// Breaks the journal: it takes no batch any more.
     pub fn give_up(&mut self)
         ensures { self.new ≡ record self.old { is_broken = true } }
     {
@@ -223,8 +232,9 @@ impl<D: Disk> Journal<D> {
 }
 
 impl<D: Renewable> Journal<D> {
-    /// Puts a new file in the file's place, of so many lines and an empty one behind them. One that wasn't finished leaves
-    /// the journal as it was; where the new file may stand there or not, no batch is taken any more.
+    /// Replaces the file by a new one of these bytes: `lines` lines and an empty one behind them.
+    /// After `Kept` the journal is as it was. After `Lost` the new file may be in place or not, and
+    /// the journal is broken.
     pub fn renew(&mut self, bytes: &[u8], lines: u64) -> Result<(), RenewError>
         requires sound { self.old.is_broken ≡ false }
         requires some { 0 < length bytes.now }

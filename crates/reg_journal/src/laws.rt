@@ -5,13 +5,15 @@ ghost use Rattle.reg_records.specs.declared.record.Read.{Read};
 ghost use Rattle.reg_records.specs.declared.record.Record.{Record};
 ghost use Rattle.reg_journal.specs.Lines.{EndedLinesAreRead, LinesAreRead, LogsAreLines, batch_reads};
 
-/// A log with a batch behind it holds the batch's records behind its own, and as many foreign lines.
+/// States that a log with a batch behind it has its own records and then the batch's, and no more
+/// foreign lines than before. Costs nothing at run time.
 pub fn batches_add_records()
     ensures records { (read : List Read) (batch : List Record) → records_in (read ++ batch_reads batch) ≡ records_in read ++ batch }
     ensures foreign { (read : List Read) (batch : List Record) → count_by is_foreign (read ++ batch_reads batch) ≡ count_by is_foreign read }
 {}
 
-/// Lines are a log of what they say, and a log is lines, with an empty line behind them or none.
+/// States that lines are read as the log that they say, with or without an empty line behind them,
+/// and that each log is such lines. Costs nothing at run time.
 pub fn lines_are_logs()
     ensures read { LinesAreRead }
     ensures ended { EndedLinesAreRead }

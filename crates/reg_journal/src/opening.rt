@@ -1,8 +1,8 @@
 // Opening a file that a crash may have left.
 ghost use Rattle.std.specs.Prelude.{◌≡◌, ◌⊎◌, ◌++◌, ◌^◌, ◌<◌, [], ◌∷◌, List, ℕ, Ok, length, false, IfErr, IfOk, OnOk};
 ghost use Rattle.reg_records.specs.Log.{IsLogOf};
-ghost use Rattle.reg_journal.specs.Disk.{Only, Keeps, LeavesOnly};
-ghost use Rattle.reg_journal.specs.Found.{IsFound, IsLookRefusal, IsUnchanged, LeavesFile};
+ghost use Rattle.reg_journal.specs.Disk.{GaveFault, Only, Keeps, LeavesOnly};
+ghost use Rattle.reg_journal.specs.Found.{IsDiskRefusal, IsFound, IsLookRefusal, IsReadRefusal, IsUnchanged, LeavesFile};
 ghost use Rattle.reg_journal.specs.Lines.{Said, said};
 ghost use Rattle.reg_journal.specs.Journal.{IsSteady};
 
@@ -12,12 +12,12 @@ use crate::journal::Journal;
 use reg_records::{Device, Log, LogError, read_log};
 use std::alloc::{AllocError, AllocFailed, Global};
 
-/// Why no file was opened.
+/// An error of opening a log file.
 #[derive(Clone, Copy, Debug, PartialEq, Eq)]
 pub enum JournalOpenError {
     /// A line has a fault. Nothing was changed.
     Log(LogError),
-    /// No empty line ends the log: `write_end` writes one. Nothing was changed.
+    /// The log has no empty line at its end; `write_end` writes one. Nothing was changed.
     NoEmptyLine,
     Failed,
     OutOfMemory,
@@ -70,19 +70,20 @@ impl<T: Drop> From<AllocFailed<T>> for JournalOpenError {
     }
 }
 
-/// A log, its place in the file, and what stands behind it.
+/// A log that was read from a file, and the bytes behind it.
 #[derive(Debug, Drop)]
 pub struct Found {
     pub log: Log,
-    /// Where its empty line stands.
+    /// The place of its empty line, in bytes from the file's start.
     pub end: usize,
-    /// How many lines stand before it.
+    /// The number of lines before the empty one, the floor's among them.
     pub lines: u64,
-    /// What stands behind the empty line: a crash has left it, or somebody has put it there.
+    /// The bytes behind the empty line. A crash has left them, or somebody has put them there.
     pub behind: Vec<u8>,
 }
 
-/// Reads the log of a file, and what stands behind its empty line. What it has read is on the disk.
+/// Reads the log of a file, and what is behind its empty line. Syncs the file first, so what it
+/// returns is on the disk. Errors: a faulty line, no empty line, a disk that failed, or no memory.
 pub fn look<D: Disk>(alloc: Global, disk: &mut D) -> Result<Found, JournalOpenError>
     requires { D.is_modelled → D.known disk.old }
     ensures found { D.is_modelled → IfOk result (IsFound (D.seen disk.old)) }
@@ -92,6 +93,7 @@ pub fn look<D: Disk>(alloc: Global, disk: &mut D) -> Result<Found, JournalOpenEr
     ensures durable { D.is_modelled → OnOk result (Only (D.seen disk.new) (D.may_leave disk.new)) }
     ensures refused { D.is_modelled → IfErr result (IsLookRefusal (D.seen disk.old)) }
     ensures untouched { D.is_modelled → IfErr result (LeavesFile D.known D.seen disk.old disk.new) }
+    ensures fault { IfErr result (λ e. e ≡ JournalOpenError.Failed → GaveFault D.faults disk.new) }
 
     // A crash leaves what it might have left before the call.
     ensures any_moment { D.is_modelled → LeavesOnly D.moment D.left_since D.may_leave disk.old disk.new (D.may_leave disk.old) }
@@ -102,7 +104,8 @@ pub fn look<D: Disk>(alloc: Global, disk: &mut D) -> Result<Found, JournalOpenEr
     read_ended(alloc, bytes)
 }
 
-/// Cuts off what stands behind the empty line of a log that was found. A crash leaves a file that says the same.
+/// Cuts the file behind the empty line of a log that [`look`] found, and syncs it. A crash leaves a
+/// file that says the same.
 pub fn cut_behind<D: Disk>(disk: &mut D, found: &Found) -> Result<(), JournalOpenError>
     requires within { found.now.end < 2 ^ 63 }
     requires known { D.is_modelled → D.known disk.old }
@@ -110,13 +113,16 @@ pub fn cut_behind<D: Disk>(disk: &mut D, found: &Found) -> Result<(), JournalOpe
     requires durable { D.is_modelled → Only (D.seen disk.old) (D.may_leave disk.old) }
     ensures same { D.is_modelled → OnOk result (D.known disk.new × (said (D.seen disk.new) ≡ said (D.seen disk.old))) }
     ensures steady { D.is_modelled → OnOk result (IsSteady D.seen D.may_leave disk.new found.now.end found.now.lines) }
+    ensures refused { IfErr result (IsDiskRefusal D.faults disk.new) }
     ensures any_moment { D.is_modelled → LeavesOnly D.moment D.left_since D.may_leave disk.old disk.new (λ c. said c ≡ said (D.seen disk.old)) }
 {
     disk.cut(found.end + 1)?;
     Ok(disk.sync()?)
 }
 
-/// Reads the log of a file, and cuts off what a crash has left behind its empty line. It may crash too.
+/// Reads the log of a file, cuts off what is behind its empty line, and syncs: `look` and then
+/// `cut_behind`. A crash during the call leaves what it might have left before, or a file that says
+/// the same.
 pub fn recover<D: Disk>(alloc: Global, disk: &mut D) -> Result<Found, JournalOpenError>
     requires { D.is_modelled → D.known disk.old }
     ensures log { D.is_modelled → IfOk result (λ found. (says : Said) × (said (D.seen disk.old) ≡ Ok says) × IsLogOf says.floor says.reads found.log) }
@@ -132,7 +138,8 @@ pub fn recover<D: Disk>(alloc: Global, disk: &mut D) -> Result<Found, JournalOpe
     Ok(found)
 }
 
-/// The log of a file, and the journal that adds to it.
+/// Opens a file after a restart: returns its log, and the journal that appends to it. What is
+/// behind the empty line is cut off. Errors as of [`recover`].
 pub fn open_journal<D: Disk + Drop>(
     alloc: Global,
     disk: D,
@@ -150,7 +157,9 @@ pub fn open_journal<D: Disk + Drop>(
     Ok((found.log, journal))
 }
 
-/// Writes an empty line behind lines that have none, as a new file has. A crash leaves the bytes that were there.
+/// Writes an empty line behind a file's lines, which have none, such as in a new file. A crash
+/// leaves the bytes that were there, or what it might have left before. Errors: a faulty line, a
+/// disk that failed, or no memory.
 pub fn write_end<D: Disk>(alloc: Global, disk: &mut D) -> Result<(), JournalOpenError>
     requires { D.is_modelled → D.known disk.old }
     ensures same { D.is_modelled → OnOk result (D.known disk.new × (said (D.seen disk.new) ≡ said (D.seen disk.old))) }
@@ -158,6 +167,8 @@ pub fn write_end<D: Disk>(alloc: Global, disk: &mut D) -> Result<(), JournalOpen
     ensures durable { D.is_modelled → OnOk result (Only (D.seen disk.new) (D.may_leave disk.new)) }
     ensures any_moment { D.is_modelled → LeavesOnly D.moment D.left_since D.may_leave disk.old disk.new
         (λ c. D.may_leave disk.old c ⊎ Keeps (length (D.seen disk.old)) (D.seen disk.old) c) }
+    ensures refused { D.is_modelled → IfErr result (IsReadRefusal (D.seen disk.old)) }
+    ensures fault { IfErr result (λ e. e ≡ JournalOpenError.Failed → GaveFault D.faults disk.new) }
 {
     disk.sync()?;
     let bytes = disk.read(alloc)?;

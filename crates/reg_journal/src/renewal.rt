@@ -6,12 +6,12 @@ ghost use Rattle.reg_journal.specs.Renewal.{LeavesDisk};
 use crate::disk::{Disk, DiskError};
 use std::alloc::{AllocError, AllocFailed};
 
-/// Why no new file stands in a file's place.
+/// An error of [`Renewable::renew`].
 #[derive(Clone, Copy, Debug, PartialEq, Eq)]
 pub enum RenewError {
-    /// The new file wasn't finished: the file is as it was.
+    /// The new file wasn't finished. The old one is as it was.
     Kept(DiskError),
-    /// The new file may stand there or not. Nothing is known of the disk any more.
+    /// The new file may be in place or not. Nothing is known of the disk any more.
     Lost,
 }
 
@@ -26,15 +26,16 @@ impl From<AllocError> for RenewError {
     }
 }
 
-/// A disk whose file can be replaced by a new one, whole.
+/// A disk whose file can be replaced by a new one as a whole.
 pub trait Renewable: Disk {
     ghost use Rattle.reg_journal.specs.declared.renewal.RenewError.{RenewError};
 
-    /// The disk before a renewal, the error that it answered, and the disk after, as `faults` of a disk.
+    /// The disk before a renewal, the error that it returned, and the disk after, like `faults` of
+    /// a disk.
     ghost renewals: { Self → RenewError → Self → Type 0 } = { λ _ _ _. Unit {0} };
 
-    /// Puts a new file of these bytes in the file's place. After it, a crash leaves them; a crash at any moment leaves
-    /// what it might have left before, or these bytes.
+    /// Replaces the file by a new one of these bytes. After `Ok` a crash leaves those bytes; a
+    /// crash during the call leaves what it might have left before, or those bytes.
     fn renew(&mut self, bytes: &[u8]) -> Result<(), RenewError>
         ensures seen { Self.known self.old → OnOk result (Self.known self.new × (Self.seen self.new ≡ bytes.now)) }
         ensures durable { Self.known self.old → OnOk result (Only bytes.now (Self.may_leave self.new)) }

@@ -2,21 +2,23 @@
 use std::fmt;
 use std::io::{self, ErrorKind};
 
-/// Why the system refused a call. It is shown by its kind's name, and where the kind has none, by the system's own.
+/// An error of a system call. It is shown by the name of its kind; an error without a kind by its
+/// Linux name, or its number.
 #[derive(Clone, Copy, Debug, PartialEq, Eq)]
 pub struct SystemError {
+    /// Its kind.
     pub kind: ErrorKind,
-    /// The system's number, if the error is the system's.
+    /// The system's error number, if the system returned it.
     pub number: Option<i32>,
 }
 
 impl SystemError {
-    /// Whether the disk, or the share of it that its owner may have, is full.
+    /// Returns whether the disk is full, or the owner's quota is used up.
     pub fn is_of_full_disk(self) -> bool {
         matches!(self.kind, ErrorKind::StorageFull | ErrorKind::QuotaExceeded)
     }
 
-    /// That of an error of a call.
+    /// Takes the kind and the number from an I/O error.
     pub fn of(error: &io::Error) -> SystemError {
         SystemError {
             kind: error.kind(),
@@ -37,7 +39,7 @@ impl fmt::Display for SystemError {
     }
 }
 
-/// The name that Linux has for a number of an error without a kind, of those that files give.
+/// Returns the Linux name of an error number that has no kind, for those that files give.
 fn name_of(number: i32) -> Option<&'static str> {
     match number {
         5 => Some("EIO"),

@@ -29,9 +29,9 @@ use std::num::NonZeroUsize;
 
 /// A judge of levels, which keeps the schemas that it read last and the verdicts that it used last.
 ///
-/// Contracts see the texts whose schemas it has, and the pairs of a reader's text and a writer's whose verdict it
-/// has, those used last first; how many of each there may be; and whether each verdict of the last judgement was
-/// kept.
+/// Contracts see the texts whose schemas it has; the pairs of a reader's and a writer's text whose
+/// verdicts it has, those used last first; how many of each there may be; and whether each verdict
+/// of the last judgement was kept.
 #[derive(Drop)]
 pub struct Judge {
     alloc: Global,
@@ -52,9 +52,10 @@ impl Model for Judge {
 }
 
 impl Judge {
-    /// A judge that keeps at most so many schemas and so many verdicts, each from 1 to `KEPT_LIMIT`.
+    /// Makes a judge that keeps at most that many schemas and verdicts, each from 1 to
+    /// `KEPT_LIMIT`.
     ///
-    /// Its texts are found by hashes under these keys.
+    /// The texts are found by hashes with these keys. Errors: `BadCapacity`, or out of memory.
     pub fn new(
         alloc: Global,
         keys: RandomState,
@@ -82,12 +83,12 @@ impl Judge {
         })
     }
 
-    /// Whether a new schema's text meets a level against old ones, which stand by ascending
-    /// version: as `Judged::make` judges it, whatever was asked before.
+    /// Checks whether a new schema's text meets a level against old ones, in ascending order of
+    /// version. The verdict is that of `Judged::make`, whatever was asked before.
     ///
-    /// Refused is the new text that is no schema's, else the first such old one; schemas that were taken
-    /// out by then are read again when they are asked for next. What memory is refused for isn't kept,
-    /// and changes no answer.
+    /// Errors: `NewText` if the new text isn't a schema, else `OldText` for the first old text that
+    /// isn't one; or out of memory. After an error, some schemas may have to be read again. If
+    /// memory is refused for keeping something, it isn't kept, and the answer is the same.
     pub fn check(
         &mut self,
         level: Level,
@@ -109,8 +110,9 @@ impl Judge {
         self.check_with(level, new_text, None, olds)
     }
 
-    /// The same, where each old text is known to be a schema's: only those are read, or taken from what is kept, that
-    /// the level looks at. The new text isn't read where its schema is given.
+    /// Checks like [`Judge::check`], but each old text is known to be a schema: only those that the
+    /// level looks at are read or taken from the cache. The new text isn't parsed if its schema is
+    /// given.
     pub fn check_read(
         &mut self,
         level: Level,
@@ -135,7 +137,7 @@ impl Judge {
         self.check_with(level, new_text, new, looked_at(level, olds))
     }
 
-    /// Whether the new text meets the level, as `check` has it; its schema may be given.
+    /// Checks like `check`; the schema of the new text may be given.
     fn check_with(
         &mut self,
         level: Level,
@@ -175,11 +177,12 @@ impl Judge {
         Ok(verdict)
     }
 
-    /// The judgement of a new schema's text against old ones, which stand by ascending version: what
-    /// `Judged::make` makes of them, whatever was asked before.
+    /// Judges a new schema's text against old ones, in ascending order of version. The judgement is
+    /// that of `Judged::make`, whatever was asked before.
     ///
-    /// Refused is the new text that is no schema's, else the first such old one. What memory is
-    /// refused for isn't kept, and changes no answer.
+    /// Errors: `NewText` if the new text isn't a schema, else `OldText` for the first old text that
+    /// isn't one; or out of memory. If memory is refused for keeping something, it isn't kept, and
+    /// the answer is the same.
     pub fn make(
         &mut self,
         level: Level,
@@ -203,7 +206,7 @@ impl Judge {
         Ok(Judged::of_parts(level, kept_text, kept_olds, verdict))
     }
 
-    /// Whether the verdict of a reader's text and a writer's is kept. Takes no memory.
+    /// Returns whether the verdict on a reader's text and a writer's is kept. Takes no memory.
     pub fn has(&self, reader_text: &str, writer_text: &str) -> bool
         ensures { result ≡ has_pair self.now.pairs (reader_text.now, writer_text.now) }
     {
@@ -215,8 +218,8 @@ impl Judge {
         false
     }
 
-    /// Whether each verdict of the last judgement was kept. Only where memory was refused for one that
-    /// the judge didn't have yet is it not. Takes no memory.
+    /// Returns whether each verdict of the last judgement was kept. It is false only if memory was
+    /// refused for one that the judge didn't have yet. Takes no memory.
     pub fn kept_all(&self) -> bool
         ensures { result ≡ self.now.kept_all }
     {
@@ -224,8 +227,8 @@ impl Judge {
     }
 }
 
-/// The pair that is judged last is one that the judge has afterwards, where it kept each verdict:
-/// `used` of `check` and `make` says so. What is proved here costs nothing at run time.
+/// Proves that the judge has the pair that was judged last, if it kept each verdict: by `used` of
+/// `check` and `make`. It costs nothing at run time.
 pub fn pairs_judged_last_are_kept()
     ensures { HasLastJudged }
 {}

@@ -11,14 +11,14 @@ use reg_level_names::Level;
 use reg_levels::{Direction, LevelVerdict};
 use std::alloc::{AllocError, Global};
 
-/// A level's verdict, and the pairs that were judged for it, in their order.
+/// The verdict of a level check, with the pairs that were judged for it, in their order.
 #[derive(Drop)]
 pub(crate) struct Run {
     pub(crate) verdict: LevelVerdict,
     pub(crate) used: Vec<(Pair, Verdict)>,
 }
 
-/// Whether a new schema meets a level against old versions, all of which the level looks at.
+/// Checks whether a new schema meets a level against old versions, all of which the level looks at.
 ///
 /// The only error is out of memory.
 pub(crate) fn judge_each(
@@ -54,7 +54,7 @@ pub(crate) fn judge_each(
     })
 }
 
-/// The directions in which a level asks, `Backward` before `Forward`.
+/// Returns the directions in which a level asks, `Backward` before `Forward`.
 fn directions(level: Level) -> &'static [Direction]
     ensures { result.now ≡ required.directions level }
 {
@@ -66,7 +66,7 @@ fn directions(level: Level) -> &'static [Direction]
     }
 }
 
-/// The pair of a direction, and the verdict on it.
+/// Judges the pair of a direction.
 fn judge_in(
     alloc: Global,
     kept: &Verdicts,
@@ -84,7 +84,7 @@ fn judge_in(
     }
 }
 
-/// A pair, and the verdict on it, as it is kept, or made.
+/// Judges a pair, or takes its verdict from those that are kept.
 fn judge_pair(
     alloc: Global,
     kept: &Verdicts,
@@ -100,7 +100,7 @@ fn judge_pair(
     Ok((pair, verdict))
 }
 
-/// What the verdict on one pair says of its version and direction.
+/// Returns the verdict on a version and direction by the verdict on its pair.
 fn told(version: u32, direction: Direction, verdict: &Verdict) -> Result<LevelVerdict, AllocError>
     ensures { IfOk result (λ told. told ≡ outcome_of version direction verdict.now) }
 {

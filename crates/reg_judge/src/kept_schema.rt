@@ -5,8 +5,8 @@ ghost use Rattle.std.specs.Borrow.{ftrue};
 use avro_resolve::avro_schema::Schema;
 use std::marker::Model;
 
-/// A schema that is kept. That it may go to another thread is proved here, once: a proof of it for
-/// what holds a judge ends at this type, and doesn't go down through the nodes and their JSON.
+/// A schema that is kept. That it may go to another thread is proved here once, so that the proof
+/// for a type that holds a judge needn't go through the schema's nodes and their JSON.
 pub(crate) struct KeptSchema {
     pub(crate) schema: Schema,
 }

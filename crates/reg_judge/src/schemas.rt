@@ -13,10 +13,10 @@ use reg_levels::JudgedError;
 use std::alloc::{AllocError, Global};
 use std::hash::RandomState;
 
-/// The schemas that are kept, each under its text.
+/// The kept schemas, each by its text.
 pub(crate) type Schemas = LruCache<String, KeptSchema, RandomState>;
 
-/// The schema of a text, taken from those that are kept, or read; `None` where there is none.
+/// Takes the schema of a text out of the kept ones, or reads it; `None` if the text isn't a schema.
 ///
 /// The only error is out of memory.
 pub(crate) fn take(
@@ -46,7 +46,8 @@ pub(crate) fn take(
     }
 }
 
-/// The same, where the schema may be given: then it isn't read, and one that is kept goes.
+/// Takes the schema of a text like `take`, unless it is given: then it isn't read, and a kept one
+/// is removed.
 pub(crate) fn take_given(
     alloc: Global,
     kept: &mut Schemas,
@@ -71,7 +72,7 @@ pub(crate) fn take_given(
     }
 }
 
-/// Keeps the schema of a text no longer.
+/// Removes the schema of a text.
 fn leave_out(kept: &mut Schemas, text: &str)
     requires { AreSchemas kept.old.entries }
     ensures left { AreSchemas kept.new.entries }
@@ -81,7 +82,7 @@ fn leave_out(kept: &mut Schemas, text: &str)
     let _gone = kept.pop_entry(text);
 }
 
-/// The schemas of the old texts, each with its version.
+/// Takes the schemas of the old texts, each with its version.
 pub(crate) fn take_olds(
     alloc: Global,
     kept: &mut Schemas,
@@ -106,7 +107,7 @@ pub(crate) fn take_olds(
     Ok(taken)
 }
 
-/// Keeps a schema. Where memory is refused, it isn't kept.
+/// Keeps a schema. If memory is refused, it isn't kept.
 pub(crate) fn keep(kept: &mut Schemas, source: Source)
     requires { AreSchemas kept.old.entries }
     ensures schemas { AreSchemas kept.new.entries }

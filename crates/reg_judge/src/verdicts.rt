@@ -12,10 +12,10 @@ use std::hash::RandomState;
 /// A reader's text and a writer's.
 pub(crate) type Pair = (String, String);
 
-/// The verdicts that are kept, each under its pair of texts.
+/// The kept verdicts, each by its pair of texts.
 pub(crate) type Verdicts = LruCache<Pair, Verdict, RandomState>;
 
-/// The verdict on two schemas, as it is kept, or made.
+/// Returns the verdict on two schemas: the kept one, or a new one.
 ///
 /// The only error is out of memory.
 pub(crate) fn verdict_on(
@@ -35,8 +35,8 @@ pub(crate) fn verdict_on(
     }
 }
 
-/// Keeps a verdict, as the one that was used last. Where memory is refused for one that isn't there, it
-/// isn't kept, and the answer is no.
+/// Keeps a verdict, as the one that was used last. If memory is refused for one that isn't kept
+/// yet, returns false.
 fn keep(kept: &mut Verdicts, pair: Pair, verdict: Verdict) -> bool
     requires kept { AreVerdicts kept.old.entries }
     requires made { IsVerdictOf (pair, verdict) }
@@ -49,8 +49,8 @@ fn keep(kept: &mut Verdicts, pair: Pair, verdict: Verdict) -> bool
     kept.put(pair, verdict).is_ok()
 }
 
-/// Keeps verdicts, the last one as the one that was used last. What memory is refused for isn't
-/// kept; the answer is whether all were kept.
+/// Keeps verdicts, the last one as the one that was used last. Those for which memory is refused
+/// aren't kept. Returns whether all were kept.
 pub(crate) fn keep_all(kept: &mut Verdicts, used: Vec<(Pair, Verdict)>) -> bool
     requires kept { AreVerdicts kept.old.entries }
     requires used { AreVerdicts used.items }

@@ -16,14 +16,14 @@ use std::alloc::{AllocError, Global};
 use std::error::Error;
 use std::fmt;
 
-/// Why a set isn't adopted; the first in this order is reported.
+/// Why a topic can't begin with a set of records. The first cause in this order is reported.
 #[derive(Clone, Copy, Debug, PartialEq, Eq)]
 pub enum AdoptError {
-    /// A version's record can't be read; the least offset of one.
+    /// A version's record can't be read. Has the least offset of such a record.
     Opaque(u64),
-    /// An id names two schemas, soft versions counted; the least that does.
+    /// An id names two schemas, soft-deleted versions included. Has the least such id.
     TwoSchemas(u32),
-    /// A mark of ids is due, and no offset is left for it.
+    /// An id mark is due, and no offset is left for it.
     NumbersUsedUp,
     OutOfMemory,
 }
@@ -62,13 +62,14 @@ impl From<AllocError> for AdoptError {
 pub struct Adopted {
     /// The registry over the set.
     pub registry: Registry,
-    /// The records that the topic begins with beside the set: a mark of the greatest id, at the next
-    /// offset, where that id is above the mark that the set has; else none.
+    /// The records to add to the set: an id mark (the highest id ever given) at the next offset if
+    /// an entry's id is above the set's mark, else none.
     pub due: Vec<Record>,
 }
 
-/// The registry over a set, and the records that a topic over it begins with beside it, unless the
-/// set takes no commands.
+/// Makes the registry over a set, and the records that a topic over it has to add first. Refused if
+/// the set takes no commands ([`AdoptError`]), if no offset is left for a due id mark, or if memory
+/// is refused.
 pub fn adopt(alloc: Global, set: &RecordSet, next: u64) -> Result<Adopted, AdoptError>
     ensures adopted { IfOk result (λ adopted. adopted.registry ≡ last_records set.now) }
     ensures due { IfOk result (λ adopted. adopted.due.items ≡ adopting (last_records set.now) next) }
@@ -87,7 +88,7 @@ pub fn adopt(alloc: Global, set: &RecordSet, next: u64) -> Result<Adopted, Adopt
     Ok(Adopted { registry, due })
 }
 
-/// A mark of the greatest id, where it is above the mark that the registry has.
+/// Makes an id mark of the greatest id if that is above the registry's mark.
 fn due_mark(alloc: Global, registry: &Registry, next: u64) -> Result<Vec<Record>, AdoptError>
     ensures due { IfOk result (λ due. due.items ≡ adopting registry.now next) }
     ensures place { OnOk result (HasPlace registry.now next) }
@@ -103,7 +104,7 @@ fn due_mark(alloc: Global, registry: &Registry, next: u64) -> Result<Vec<Record>
     Ok(marked_at(alloc, next, greatest)?)
 }
 
-/// The record that marks the id, at that offset.
+/// Makes the record that marks the id, at this offset.
 fn marked_at(alloc: Global, next: u64, id: u32) -> Result<Vec<Record>, AllocError>
     requires { next ≤ OFFSET_LIMIT }
     ensures { IfOk result (λ due. due.items ≡ numbered next (id_marked id ∷ [])) }

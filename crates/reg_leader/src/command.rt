@@ -5,51 +5,53 @@ use reg_rules::reg_fold::VersionRef;
 use reg_rules::reg_level_names::Level;
 use reg_rules::reg_modes::Mode;
 
-/// A change that is asked for. Where a subject is optional, `None` is all subjects.
+/// A change to the registry. A `subject` of `None` means all subjects.
 #[derive(Debug, Drop, Clone)]
 pub enum Command {
-    /// The text is a schema's.
+    /// Registers a schema. The id and the version are chosen by the registry.
     Register {
         subject: Text,
         text: SchemaText,
     },
-    /// The id is the caller's, and so is the version, where one is given.
+    /// Registers a schema with the caller's id, and with the caller's version if there is one.
     ImportRegister {
         subject: Text,
         text: SchemaText,
         id: u32,
         version: Option<u32>,
     },
-    /// Soft-deletes a version; `permanent` removes one that is soft-deleted.
+    /// Soft-deletes a version; with `permanent` removes one that is soft-deleted.
     DeleteVersion {
         subject: Text,
         version: VersionRef,
         permanent: bool,
     },
-    /// Soft-deletes all versions; `permanent` removes them once none is live.
+    /// Soft-deletes all versions of a subject; with `permanent` removes them if none is live.
     DeleteSubject {
         subject: Text,
         permanent: bool,
     },
+    /// Sets the level of a scope.
     SetLevel {
         subject: Option<Text>,
         level: Level,
     },
-    /// Takes the subject's own level away.
+    /// Removes the subject's own level.
     ClearLevel(Text),
-    /// `force` sets IMPORT over live versions too.
+    /// Sets the mode of a scope. With `force`, IMPORT is set even if versions are live.
     SetMode {
         subject: Option<Text>,
         mode: Mode,
         force: bool,
     },
-    /// Takes the subject's own mode away.
+    /// Removes the subject's own mode.
     ClearMode(Text),
+    /// Writes a record that changes nothing.
     Noop,
 }
 
 impl Command {
-    /// The text of the schema that is to be registered. Takes no memory.
+    /// Returns the text of the schema that a registration carries, else `None`. Takes no memory.
     pub fn schema(&self) -> Option<&SchemaText> {
         match self {
             Command::Register { text, .. } | Command::ImportRegister { text, .. } => Some(text),

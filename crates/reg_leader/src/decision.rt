@@ -21,18 +21,19 @@ use reg_rules::reg_levels::Judged;
 use reg_rules::reg_records::{OFFSET_LIMIT, Record};
 use std::alloc::Global;
 
-/// What is replied to a command, and the records that it writes.
+/// The reply to a command, and the batch of records that it writes.
 #[derive(Debug, Drop)]
 pub struct Decision {
     pub batch: Listed<Record>,
     pub reply: Reply,
 }
 
-/// What a command replies and writes, from the offset `next` on. A judgement that is absent or
-/// doesn't fit is made anew. Where memory is refused, that is the reply, and nothing is written.
+/// Decides what a command replies and writes, at the offsets from `next` on. `judged` only saves
+/// work: without one that fits, the check is made here. If memory is refused, the reply says so and
+/// the batch is empty.
 ///
-/// Where memory isn't refused, one registry, offset and command have one reply and one batch, whatever
-/// was judged: `steps_are_single`.
+/// Memory aside, a registry, an offset and a command have one reply and one batch, whatever was
+/// judged ([`crate::steps_are_single`]).
 pub fn decide(
     alloc: Global,
     registry: &Registry,
@@ -66,7 +67,7 @@ fn decided(
     }
 }
 
-/// The deed of a command, or its refusal.
+/// Makes the deed of a command, or its refusal.
 #[tactic(auto, using(crate::proofs::Leading::leads_followed))]
 fn deed_of(
     alloc: Global,
@@ -107,7 +108,8 @@ fn deed_of(
     }
 }
 
-/// What a deed comes to, unless an offset of its batch would pass the limit.
+/// Makes the decision of a deed. Refused with `NumbersUsedUp` if an offset of the batch would pass
+/// the limit.
 fn concluded(alloc: Global, next: u64, deed: Deed) -> Result<Decision, Refusal>
     ensures { Concludes next (Does deed.reply deed.writings.items) result }
 {
@@ -122,7 +124,7 @@ fn concluded(alloc: Global, next: u64, deed: Deed) -> Result<Decision, Refusal>
     })
 }
 
-/// Whether so many records have offsets from the next one on.
+/// Returns whether this many records have offsets within the limit, from `next` on.
 fn has_offsets(next: u64, count: usize) -> bool
     ensures { result ≡ nat_le (next + count) (suc OFFSET_LIMIT) }
 {

@@ -39,7 +39,8 @@ pub(crate) fn delete_version(
     }
 }
 
-/// The entry that a delete names; the latest is the greatest live one.
+/// Returns the entry that a delete names: the latest live one, or the one of that number, live or
+/// soft-deleted.
 fn version_meant<'a>(
     registry: &'a Registry,
     subject: &Text,
@@ -53,7 +54,7 @@ fn version_meant<'a>(
     }
 }
 
-/// Soft-deletes a version, which has to be live.
+/// Soft-deletes a version. Refused if it isn't live.
 fn delete_softly(alloc: Global, entry: &Entry) -> Result<Deed, Refusal>
     ensures { Follows (delete_softly entry.now) result }
 {
@@ -67,7 +68,7 @@ fn delete_softly(alloc: Global, entry: &Entry) -> Result<Deed, Refusal>
     })
 }
 
-/// Marks the ids, and removes a version, which has to be soft-deleted.
+/// Writes an id mark and removes a version. Refused if it isn't soft-deleted.
 fn delete_permanently(alloc: Global, registry: &Registry, entry: &Entry) -> Result<Deed, Refusal>
     ensures { Follows (delete_permanently registry.now entry.now) result }
 {
@@ -81,7 +82,7 @@ fn delete_permanently(alloc: Global, registry: &Registry, entry: &Entry) -> Resu
     })
 }
 
-/// The refusal where the version that is named isn't there.
+/// Returns the refusal for a version that doesn't exist.
 fn no_version(version: VersionRef) -> Refusal
     ensures { result ≡ no_version version }
 {
@@ -113,7 +114,7 @@ pub(crate) fn delete_subject(
     }
 }
 
-/// Soft-deletes the subject's versions, up to the greatest.
+/// Soft-deletes the subject's versions, up to the greatest. Refused if none is live.
 fn delete_all_softly(
     alloc: Global,
     registry: &Registry,
@@ -134,7 +135,8 @@ fn delete_all_softly(
     })
 }
 
-/// Marks the ids, and removes the subject's versions, each with a record of its own.
+/// Writes an id mark and removes the subject's versions, each with a record of its own. Refused if
+/// one is live.
 fn delete_all_permanently(
     alloc: Global,
     registry: &Registry,
@@ -153,7 +155,7 @@ fn delete_all_permanently(
     })
 }
 
-/// Whether one of the entries is live.
+/// Returns whether one of the entries is live.
 fn any_live(entries: &[&Entry]) -> bool
     ensures { result ≡ list_any (λ e. not e.now.soft) entries.now }
 {

@@ -40,7 +40,7 @@ pub(crate) fn import_register(
     }
 }
 
-/// Imports a schema as that version, over a soft one if there is one.
+/// Imports a schema as this version, in place of a soft-deleted one if there is one.
 fn import_at(
     alloc: Global,
     registry: &Registry,
@@ -60,7 +60,8 @@ fn import_at(
     writes(first, subject, schema, u64::from(id), u64::from(version))
 }
 
-/// The entry that is live there is this schema with this id, or the version is occupied.
+/// Replies with the id if the live entry has it and the schema. Refused with `VersionIsOccupied` if
+/// not.
 fn is_there(alloc: Global, entry: &Entry, id: u32, normal: &Text) -> Result<Deed, Refusal>
     ensures { Follows (is_there id normal.now entry.now) result }
 {

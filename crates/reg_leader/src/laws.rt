@@ -1,5 +1,5 @@
-// What is true of every single step. What is proved here costs nothing at run time: a function that
-// needs a law calls it.
+// What is true of every single step. The laws cost nothing at run time: a function that needs a law
+// calls it.
 ghost use Rattle.reg_leader.specs.OneStep.{BatchesAreRead, BatchesEndByTheLimit, BatchesGoOn, BatchesHaveLines, RefusalsWriteNothing, StepsAreSingle, StepsMeetLevels};
 
 use reg_rules::avro_schema::normal_texts_read_back;
@@ -7,34 +7,36 @@ use reg_rules::reg_fold::{entries_are_in_limits, entries_are_read, id_mark_is_in
 use reg_rules::reg_levels::level_verdicts_are_single;
 use reg_rules::reg_values::{written_values_have_lines, written_values_read_back};
 
-/// A refusal writes nothing.
+/// States that a refused command writes nothing.
 pub fn refusals_write_nothing()
     ensures { RefusalsWriteNothing }
 {}
 
-/// A command has one reply and one batch.
+/// States that a command has one reply and one batch, over one registry at one next offset.
 pub fn steps_are_single()
     ensures { StepsAreSingle }
 {
     level_verdicts_are_single();
 }
 
-/// What a registration without an id writes met the level in force, or nothing is written.
+/// States that a registration without an id writes nothing, or one version that meets the level in
+/// force against the live versions.
 pub fn steps_meet_levels()
     ensures { StepsMeetLevels }
 {}
 
-/// The records of a batch have the next offset, the one after it, and so on.
+/// States that the records of a batch have the offsets from the next one on, without a gap.
 pub fn batches_go_on()
     ensures { BatchesGoOn }
 {}
 
-/// The offset of the last record of a batch is within the limit.
+/// States that a batch's last offset is within the limit.
 pub fn batches_end_by_the_limit()
     ensures { BatchesEndByTheLimit }
 {}
 
-/// Each record of a batch has a line: unless it is too long, it is written, and reads back.
+/// States that each record of a batch has a line, which reads back to the record unless it is too
+/// long to be written.
 pub fn batches_have_lines()
     ensures { BatchesHaveLines }
 {
@@ -45,7 +47,7 @@ pub fn batches_have_lines()
     written_values_have_lines();
 }
 
-/// Each value of a batch is read under its key.
+/// States that each value of a batch can be read under its key.
 pub fn batches_are_read()
     ensures { BatchesAreRead }
 {

@@ -6,15 +6,15 @@ use reg_rules::Writing;
 use reg_rules::reg_fold::{Entry, Registry};
 use std::alloc::{AllocError, Global};
 
-/// The mark of ids that is written where an entry is removed or written over.
+/// Makes the id mark that is written when an entry is removed or replaced.
 pub(crate) fn marked(registry: &Registry) -> Writing
     ensures { result ≡ marked registry.now }
 {
     Writing::id_marked(registry.last_id())
 }
 
-/// What is written before a version of that id: a mark, where an entry of another id stands in the
-/// place.
+/// Returns what is written before a version with this id: an id mark if it replaces an entry of
+/// another id, else nothing.
 pub(crate) fn mark_over(
     alloc: Global,
     registry: &Registry,

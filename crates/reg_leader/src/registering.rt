@@ -37,7 +37,7 @@ pub(crate) fn register(
     }
 }
 
-/// The tests before the check of the level, and the id of a schema that is live already.
+/// Runs the tests before the check of the level, and finds the id of a schema that is already live.
 fn candidate(
     registry: &Registry,
     next: u64,
@@ -50,7 +50,7 @@ fn candidate(
     candidate_of(registry, next, subject, schema)
 }
 
-/// The same of a schema that was read.
+/// Does what `candidate` does, for a schema that was read.
 fn candidate_of(
     registry: &Registry,
     next: u64,
@@ -69,7 +69,8 @@ fn candidate_of(
     }
 }
 
-/// Registers a schema that isn't live, if it meets the level in force.
+/// Registers a schema that isn't live. Refused with `Incompatible` if it doesn't meet the level in
+/// force.
 fn register_new(
     alloc: Global,
     registry: &Registry,
@@ -89,8 +90,8 @@ fn register_new(
     writes(Vec::new(alloc), subject, schema, id, version)
 }
 
-/// The id of a schema that is registered: the least that an entry has it under, else one more than
-/// the greatest that is marked or that an entry has, or 1. The only error is out of memory.
+/// Returns the id for a schema: the least id of an entry that has it, else one more than the
+/// greatest id that is marked or that an entry has, or 1. The only error is out of memory.
 fn id_for(registry: &Registry, normal: &Text) -> Result<u64, AllocError>
     ensures { IfOk result (λ id. id ≡ id_for registry.now normal.now) }
 {
@@ -100,7 +101,7 @@ fn id_for(registry: &Registry, normal: &Text) -> Result<u64, AllocError>
     }
 }
 
-/// One more than the greatest version of the subject, soft ones too, or 1.
+/// Returns one more than the subject's greatest version, soft-deleted ones included, or 1.
 pub(crate) fn next_version(registry: &Registry, subject: &Text) -> u64
     ensures { result ≡ next_version registry.now subject.now }
 {
@@ -110,7 +111,7 @@ pub(crate) fn next_version(registry: &Registry, subject: &Text) -> u64
     }
 }
 
-/// Writes a schema as that version, with that id, after what is written first.
+/// Writes a schema as this version with this id, after the records in `first`.
 pub(crate) fn writes(
     first: Vec<Writing>,
     subject: &Text,

@@ -4,9 +4,10 @@ use reg_rules::reg_fold::Refusal;
 use reg_rules::reg_level_names::Level;
 use reg_rules::reg_modes::Mode;
 
+/// The reply to a command.
 #[derive(Debug, Drop)]
 pub enum Reply {
-    /// The id of a schema that is registered.
+    /// The id of the registered schema.
     Id(u32),
     /// The version that was deleted.
     Version(u32),
@@ -14,13 +15,17 @@ pub enum Reply {
     Versions(Listed<u32>),
     /// The level that was set.
     Level(Level),
+    /// The level that was removed.
     LevelRemoved(Level),
     /// The mode that was set.
     Mode(Mode),
+    /// The mode that was removed.
     ModeRemoved(Mode),
+    /// The command was done, and has nothing to report.
     Nothing,
+    /// The command was refused and wrote nothing.
     Refused(Refusal),
-    /// Whether the batch stands isn't known yet; the offset of its first record. No decision gives
-    /// this one.
+    /// It isn't known yet whether the batch is in the log. Has the offset of its first record.
+    /// [`crate::decide`] never gives this reply.
     Unsettled(u64),
 }

@@ -1,5 +1,5 @@
-// What every command leaves as it should be. What is proved here costs nothing at run time: a
-// function that needs a law calls it.
+// What holds after every command. The laws cost nothing at run time: a function that needs a law
+// calls it.
 ghost use Rattle.reg_leader.specs.Deletes.{DeletesNameGreatest};
 ghost use Rattle.reg_leader.specs.Harmless.{StepsAreHarmless};
 ghost use Rattle.reg_leader.specs.StayOpen.{StepsKeepIds, StepsStayOpen};
@@ -15,8 +15,8 @@ use reg_rules::reg_set::{
 };
 use reg_rules::reg_values::written_values_read_back;
 
-/// What a command writes is one version whose id names no other schema, after records that give no
-/// version a value, or such records alone.
+/// States what any command writes: records that aren't a version with a value, or such records and
+/// then one version whose text is a schema's and whose id names no other schema.
 pub fn steps_are_harmless()
     ensures { StepsAreHarmless }
 {
@@ -26,8 +26,8 @@ pub fn steps_are_harmless()
     two_schemas_is_least();
 }
 
-/// A registry that isn't closed stays so when a command is carried out, and an id names one schema
-/// after it.
+/// States that a registry that takes commands still does after a command, and that each id names
+/// one schema then.
 pub fn steps_stay_open()
     ensures stay { StepsStayOpen }
     ensures ids { StepsKeepIds }
@@ -42,8 +42,8 @@ pub fn steps_stay_open()
     written_values_read_back();
 }
 
-/// The id of an entry is given to its schema, and what is given stays so when a command is carried out: no entry
-/// has the id with another schema, and no command gives it to one.
+/// States that in a registry that takes commands the id of an entry is given to its schema for
+/// good: after any command no entry has the id with another schema, and no command gives it to one.
 pub fn steps_keep_given_ids()
     ensures entries { EntriesHaveGivenIds }
     ensures kept { StepsKeepGivenIds }
@@ -61,7 +61,8 @@ pub fn steps_keep_given_ids()
     written_values_read_back();
 }
 
-/// A soft delete of a subject in a batch stands alone, and names the subject's greatest version.
+/// States that a batch that soft-deletes a subject is that one record, which names the subject's
+/// greatest version.
 pub fn deletes_name_greatest()
     ensures { DeletesNameGreatest }
 {

@@ -10,10 +10,11 @@ use avro_resolve::{Verdict, resolve, schemas_have_one_verdict};
 use reg_level_names::Level;
 use std::alloc::{AllocError, Global};
 
-/// Whether a new schema meets a level against the old versions, which stand by ascending version.
+/// Checks whether a new schema meets a level against the old versions, in ascending order of
+/// version.
 ///
-/// Where it doesn't, the first pair that clashes is reported, from the greatest version down and
-/// `Backward` before `Forward`. The only error is out of memory.
+/// If it doesn't, the verdict reports the first pair that clashes, from the greatest version down
+/// and `Backward` before `Forward`. The only error is out of memory.
 pub fn check(
     alloc: Global,
     level: Level,
@@ -31,7 +32,7 @@ pub fn check(
     check_each(alloc, level, new, looked_at(level, olds))
 }
 
-/// The same, where a level looks at all these versions.
+/// Checks a new schema against each of these versions, all of which the level looks at.
 fn check_each(
     alloc: Global,
     level: Level,
@@ -51,7 +52,8 @@ fn check_each(
     Ok(LevelVerdict::passed())
 }
 
-/// The old versions that a level looks at: none, the greatest, which stands last, or all.
+/// Returns the old versions that a level looks at: none, the greatest (the last of the slice) or
+/// all.
 pub fn looked_at<T>(level: Level, olds: &[T]) -> &[T]
     ensures { result.now ≡ pairs.looked_at level olds.now }
 {
@@ -63,7 +65,7 @@ pub fn looked_at<T>(level: Level, olds: &[T]) -> &[T]
     &olds[first..]
 }
 
-/// Whether a new schema meets a level against one version.
+/// Checks whether a new schema meets a level against one version.
 pub(crate) fn check_version(
     alloc: Global,
     level: Level,
@@ -91,7 +93,7 @@ pub(crate) fn check_version(
     }
 }
 
-/// Whether one pair is compatible, which is required for that version and direction.
+/// Checks one pair, which is required for that version and direction.
 fn check_pair(
     alloc: Global,
     reader: &Schema,
@@ -107,8 +109,8 @@ fn check_pair(
     }
 }
 
-/// A list of required pairs has one verdict. What is proved here costs nothing at run time: a
-/// function that needs the law calls this one.
+/// Proves that a list of required pairs has one verdict. It costs nothing at run time: a function
+/// that needs the law calls this one.
 pub fn level_verdicts_are_single()
     ensures { HaveOneLevelVerdict }
 {

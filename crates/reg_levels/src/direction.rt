@@ -4,7 +4,7 @@ ghost use Rattle.reg_levels.specs.Message.{direction_text};
 
 use std::fmt;
 
-/// Which of two schemas reads the other.
+/// The direction of a check: which of two schemas reads the other.
 #[derive(Clone, Copy, Debug, PartialEq, Eq)]
 pub enum Direction {
     /// The new schema reads what the old one wrote.
@@ -14,7 +14,7 @@ pub enum Direction {
 }
 
 impl Direction {
-    /// Its name, in capitals.
+    /// Returns the direction's name: `BACKWARD` or `FORWARD`.
     pub fn as_str(self) -> &'static str
         ensures { result.now ≡ direction_text self }
     {

@@ -13,9 +13,10 @@ use reg_level_names::Level;
 use std::alloc::{AllocError, Global};
 use std::marker::Model;
 
-/// The verdict on a new schema's text against old ones under a level, kept with these.
+/// A verdict on a new schema's text against old ones under a level, kept with the level and the
+/// texts.
 ///
-/// Every value is a true one: its texts are schemas', and its verdict is theirs.
+/// Each value is true: its texts are those of schemas, and its verdict is theirs.
 #[derive(Debug, Drop)]
 pub struct Judged {
     level: Level,
@@ -35,9 +36,10 @@ impl Model for Judged {
 }
 
 impl Judged {
-    /// Judges a new schema's text against old ones, which stand by ascending version.
+    /// Judges a new schema's text against old ones, in ascending order of version.
     ///
-    /// Refused is the new text that is no schema's, else the first such old one.
+    /// Errors: `NewText` if the new text isn't a schema, else `OldText` for the first old text that
+    /// isn't one; or out of memory.
     pub fn make(
         alloc: Global,
         level: Level,
@@ -57,7 +59,7 @@ impl Judged {
         })
     }
 
-    /// The judgement of a verdict that is the true one of these. Takes no memory.
+    /// Makes the judgement from its parts; the verdict has to be the true one. Takes no memory.
     pub fn of_parts(
         level: Level,
         new_text: Text,
@@ -76,7 +78,7 @@ impl Judged {
         }
     }
 
-    /// The verdict, which is that of the texts. Takes no memory.
+    /// Returns the verdict, which is that of the texts. Takes no memory.
     pub fn verdict(&self) -> &LevelVerdict
         ensures verdict { result.now ≡ self.now.verdict }
         ensures is_true { IsTrueVerdict self.now.level self.now.new_text self.now.olds self.now.verdict }
@@ -84,7 +86,8 @@ impl Judged {
         &self.verdict
     }
 
-    /// Whether the verdict was made of these. Takes no memory.
+    /// Returns whether the verdict was made of this level, this new text and these versions with
+    /// their texts. Takes no memory.
     pub fn fits(&self, level: Level, new_text: &str, olds: &[(u32, &str)]) -> bool
         ensures { IsTrue result ↔ IsMadeOf self.now level new_text.now (map (λ old. (old.0, old.1.now)) olds.now) }
     {
@@ -94,7 +97,7 @@ impl Judged {
     }
 }
 
-/// The verdict on a new text against old ones.
+/// Judges a new text against old ones.
 fn judge(
     alloc: Global,
     level: Level,
@@ -111,7 +114,7 @@ fn judge(
     check_texts(alloc, level, &new, olds)
 }
 
-/// A copy of the versions and texts. The only error is out of memory.
+/// Copies the versions and their texts. The only error is out of memory.
 pub fn copy_of(alloc: Global, olds: &[(u32, &str)]) -> Result<Listed<(u32, Text)>, AllocError>
     ensures { IfOk result (λ copy. copy ≡ map (λ old. (old.0, old.1.now)) olds.now) }
 {
@@ -122,7 +125,7 @@ pub fn copy_of(alloc: Global, olds: &[(u32, &str)]) -> Result<Listed<(u32, Text)
     Ok(Listed::from(copy))
 }
 
-/// Whether these are the same versions with the same texts.
+/// Returns whether these are the same versions with the same texts.
 fn are_same(kept: &[(u32, Text)], olds: &[(u32, &str)]) -> bool
     ensures { IsTrue result ↔ (kept.now ≡ map (λ old. (old.0, old.1.now)) olds.now) }
 {

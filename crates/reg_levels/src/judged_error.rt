@@ -3,12 +3,12 @@ use std::alloc::{AllocError, AllocFailed};
 use std::error::Error;
 use std::fmt;
 
-/// Why nothing was judged. The new text's fault is reported before an old one's.
+/// An error of a judgement. A fault of the new text is reported before one of an old text.
 #[derive(Clone, Copy, Debug, PartialEq, Eq)]
 pub enum JudgedError {
-    /// The new text is no schema's.
+    /// The new text isn't a schema.
     NewText,
-    /// The text of this version is no schema's; that of each version before it is.
+    /// The text of this version isn't a schema; those of all versions before it are.
     OldText(u32),
     OutOfMemory,
 }

@@ -3,8 +3,8 @@ use crate::direction::Direction;
 use avro_resolve::Trail;
 use std::fmt;
 
-/// `version V, DIRECTION, at TRAIL: CLASH` of a pair. It's made where it's written, since a trail's
-/// text may be far longer than the trail.
+/// The message of a pair that clashes: `version V, DIRECTION, at TRAIL: CLASH`. It is formatted
+/// only when it is written, since a trail's text may be far longer than the trail.
 #[derive(Clone, Copy, Debug)]
 pub struct ClashMessage<'a> {
     pub version: u32,

@@ -15,11 +15,11 @@ use avro_resolve::base_text::Text;
 use reg_level_names::Level;
 use std::alloc::{AllocError, Global};
 
-/// Whether a new schema meets a level against the old versions, which stand by ascending version
-/// and are given by their texts.
+/// Checks whether a new schema meets a level against old versions that are given by their texts, in
+/// ascending order of version.
 ///
-/// Refused is the first old text that is no schema's, also one that the level doesn't look at. It
-/// is never the new one.
+/// Errors: `OldText` for the first old text that isn't a schema, even if the level doesn't look at
+/// it; or out of memory. It is never `NewText`.
 pub fn check_texts(
     alloc: Global,
     level: Level,
@@ -37,9 +37,9 @@ pub fn check_texts(
     Ok(check(alloc, level, new, &versions)?)
 }
 
-/// The same, where each old text is known to be a schema's: those alone are read of which the level
-/// looks at the versions, one after the other from the greatest down, up to one that clashes. The only
-/// error is out of memory.
+/// Checks like [`check_texts`], but each old text is known to be a schema. It reads only the
+/// versions that the level looks at, one at a time from the greatest down, up to one that clashes.
+/// The only error is out of memory.
 pub fn check_read_texts(
     alloc: Global,
     level: Level,
@@ -53,7 +53,7 @@ pub fn check_read_texts(
     check_each_text(alloc, level, new, looked_at(level, olds))
 }
 
-/// The same, where a level looks at all these versions.
+/// Checks a new schema against the text of each of these versions, all of which the level looks at.
 fn check_each_text(
     alloc: Global,
     level: Level,
@@ -73,7 +73,7 @@ fn check_each_text(
     Ok(LevelVerdict::passed())
 }
 
-/// The same of one version.
+/// Checks a new schema against the text of one version.
 fn check_text(
     alloc: Global,
     level: Level,
@@ -87,7 +87,7 @@ fn check_text(
     check_version(alloc, level, new, old.0, &schema)
 }
 
-/// The schema of a text that is known to be one's. The only error is out of memory.
+/// Reads a text that is known to be a schema. The only error is out of memory.
 fn read_known(alloc: Global, text: &str) -> Result<Schema, AllocError>
     requires { is_schema text.now ≡ true }
     ensures { IfOk result (λ schema. schema.nodes ≡ nodes_in text.now) }
@@ -98,7 +98,7 @@ fn read_known(alloc: Global, text: &str) -> Result<Schema, AllocError>
     }
 }
 
-/// The schemas of the old texts, each with its version.
+/// Reads the schemas of the old texts, each with its version.
 fn read_olds(alloc: Global, olds: &[(u32, &str)]) -> Result<Vec<(u32, Schema)>, JudgedError>
     ensures versions { IfOk result (λ schemas. map (λ old. (old.0, old.1.nodes)) schemas.items
         ≡ versions_in (map (λ old. (old.0, old.1.now)) olds.now)) }
@@ -116,7 +116,7 @@ fn read_olds(alloc: Global, olds: &[(u32, &str)]) -> Result<Vec<(u32, Schema)>, 
     Ok(schemas)
 }
 
-/// The same versions, with their schemas lent.
+/// Lends the schemas, each with its version.
 fn versions_of<'a>(
     alloc: Global,
     schemas: &'a [(u32, Schema)],
@@ -131,7 +131,7 @@ fn versions_of<'a>(
     Ok(versions)
 }
 
-/// The same versions, with their texts lent.
+/// Lends the texts, each with its version. The only error is out of memory.
 pub fn lend_texts<'a>(
     alloc: Global,
     olds: &'a [(u32, Text)],

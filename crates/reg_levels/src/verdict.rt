@@ -9,8 +9,8 @@ use avro_resolve::Trail;
 use avro_resolve::base_text::Text;
 use std::alloc::{AllocError, Global};
 
-/// Whether a level is met. Where it isn't, the first required pair that clashes is reported: its
-/// version, its direction and its trail. Where it is, these are `None`.
+/// The verdict of a level check. If the level isn't met, the verdict has the version, the direction
+/// and the trail of the first required pair that clashes; if it is met, these are `None`.
 #[derive(Debug, Drop)]
 pub struct LevelVerdict {
     pub ok: bool,
@@ -20,7 +20,7 @@ pub struct LevelVerdict {
 }
 
 impl LevelVerdict {
-    /// `version V, DIRECTION, at TRAIL: CLASH` of the pair that is reported; `None` where none is.
+    /// Writes the clash as `version V, DIRECTION, at TRAIL: CLASH`; `None` if none is reported.
     ///
     /// The only error is out of memory.
     pub fn message(&self, alloc: Global) -> Result<Option<Text>, AllocError>
@@ -32,7 +32,8 @@ impl LevelVerdict {
         }
     }
 
-    /// The same, to be written where it goes. Takes no memory.
+    /// Returns the text of [`LevelVerdict::message`] to be formatted where it is written. Takes no
+    /// memory.
     pub fn clash_message(&self) -> Option<ClashMessage<'_>>
         ensures { option_map message.text_of result ≡ message.message_of self.now }
     {
@@ -46,7 +47,7 @@ impl LevelVerdict {
         }
     }
 
-    /// The level is met.
+    /// Returns the verdict of a level that is met.
     pub fn passed() -> LevelVerdict
         ensures { result ≡ passed }
     {
@@ -58,7 +59,7 @@ impl LevelVerdict {
         }
     }
 
-    /// That version clashes in that direction.
+    /// Returns the verdict of a level that isn't met, with the pair that clashes.
     pub fn failed(version: u32, direction: Direction, trail: Trail) -> LevelVerdict
         ensures { result ≡ record { ok = false; version = Some version; direction = Some direction; trail = Some trail } }
     {

@@ -2,7 +2,7 @@
 ghost use Rattle.std.specs.Prelude.{◌↔◌, IsTrue};
 ghost use Rattle.reg_levels.specs.RequiredPairs.{HasRisingVersions};
 
-/// Whether each version is smaller than the next one, as checks and judgements need them.
+/// Returns whether each version is smaller than the next one, as checks and judgements require.
 pub fn versions_rise<T>(olds: &[(u32, T)]) -> bool
     ensures { IsTrue result ↔ HasRisingVersions olds.now }
 {

@@ -17,10 +17,10 @@ use reg_modes::base_text::Text;
 use reg_modes::reg_fold::Registry;
 use std::alloc::{AllocError, Global};
 
-/// The answer to a query; a refusal is one too. The only error is out of memory.
+/// Answers a query; a refusal is an answer too. The only error is out of memory.
 ///
-/// A registry over a set of records answers as one over a part that keeps its last records does, to
-/// the byte.
+/// A registry over a set of records gives the same bytes as one over a part that keeps its last
+/// records.
 pub fn answer(alloc: Global, registry: &Registry, query: &Query) -> Result<Answer, AllocError>
     ensures answered { IfOk result (IsAnswer registry.now query.now) }
     ensures one_answer { HaveOneAnswer }

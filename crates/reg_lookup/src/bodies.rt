@@ -1,11 +1,12 @@
 // The bodies of answers: JSON without spaces (RFC 8259), members in the order of the formats.
-ghost use Rattle.std.specs.Prelude.{◌≡◌, ◌++◌, IfOk, map, option_map, string_bytes};
-ghost use Rattle.json.specs.Print.{escape};
+ghost use Rattle.std.specs.Prelude.{◌≡◌, ◌++◌, [], IfOk, map, option_map, string_bytes};
+ghost use Rattle.json.specs.Print.{escape, print};
 ghost use Rattle.serde_json.specs.Data.{string};
 ghost use Rattle.reg_levels.specs.Message.{text_of};
 ghost use Rattle.reg_lookup.specs.Bodies as spec;
 
 use crate::in_string::InString;
+use json::Writer;
 use reg_levels::ClashMessage;
 use reg_modes::base_text::Text;
 use reg_modes::reg_fold::{Entry, Refusal};
@@ -13,77 +14,109 @@ use reg_modes::reg_records::quoted;
 use std::alloc::{AllocError, Global};
 use std::fmt::Write;
 
-/// The list of the versions of those entries.
+/// Room for an entry's subject, version and id as they mostly are, in bytes.
+const SHORT_MEMBERS: usize = 192;
+
+/// Makes the list of the entries' versions.
 pub(crate) fn versions_body(alloc: Global, entries: &[&Entry]) -> Result<Text, AllocError>
     ensures { IfOk result (λ body. body
         ≡ spec.list_body (λ e. spec.number_data e.version) (map (λ e. e.now) entries.now)) }
 {
-    let mut list = String::from_str(alloc, "[")?;
-    let mut separator = "";
+    let mut body = Writer::new(Vec::new(alloc));
+    body.begin_array()?;
     for entry in entries {
-        write!(list, "{separator}{}", entry.version)?;
-        separator = ",";
+        body.u64(u64::from(entry.version))?;
     }
-    list.push_str("]")?;
-    Text::of_string(list)
+    body.end_array()?;
+    ended(body)
 }
 
-/// The list of the subjects and versions of those entries.
+/// Makes the list of the entries' subjects and versions.
 pub(crate) fn places_body(alloc: Global, entries: &[&Entry]) -> Result<Text, AllocError>
     ensures { IfOk result (λ body. body ≡ spec.list_body spec.place_data (map (λ e. e.now) entries.now)) }
 {
-    let mut list = String::from_str(alloc, "[")?;
-    let mut separator = "";
+    let mut body = Writer::new(Vec::new(alloc));
+    body.begin_array()?;
     for entry in entries {
-        let subject = quoted(alloc, entry.subject.as_str())?;
-        write!(
-            list,
-            "{separator}{{\"subject\":{subject},\"version\":{}}}",
-            entry.version
-        )?;
-        separator = ",";
+        body.begin_object()?;
+        body.key("subject")?;
+        body.string(entry.subject.as_str())?;
+        body.key("version")?;
+        body.u64(u64::from(entry.version))?;
+        body.end_object()?;
     }
-    list.push_str("]")?;
-    Text::of_string(list)
+    body.end_array()?;
+    ended(body)
 }
 
-/// The list of those subjects.
+/// Makes the list of the subjects.
 pub(crate) fn subjects_body(alloc: Global, subjects: &[&str]) -> Result<Text, AllocError>
     ensures { IfOk result (λ body. body ≡ spec.list_body string (map (λ s. s.now) subjects.now)) }
 {
-    let mut list = String::from_str(alloc, "[")?;
-    let mut separator = "";
+    let mut body = Writer::new(Vec::new(alloc));
+    body.begin_array()?;
     for subject in subjects {
-        let written = quoted(alloc, subject)?;
-        write!(list, "{separator}{written}")?;
-        separator = ",";
+        body.string(subject)?;
     }
-    list.push_str("]")?;
-    Text::of_string(list)
+    body.end_array()?;
+    ended(body)
 }
 
-/// An entry, with the text that its record holds.
+/// Makes the body of an entry, with the text that its record holds.
 pub(crate) fn entry_body(alloc: Global, entry: &Entry) -> Result<Text, AllocError>
     ensures { IfOk result (λ body. body ≡ spec.entry_body entry.now) }
 {
-    let subject = quoted(alloc, entry.subject.as_str())?;
-    let schema = quoted(alloc, entry.text.as_str())?;
-    let body = format!(in alloc;
-        "{{\"subject\":{subject},\"version\":{},\"id\":{},\"schema\":{schema}}}",
-        entry.version, entry.id
-    )?;
-    Text::of_string(body)
+    let mut body = body_for(alloc, entry.text.as_str())?;
+    body.begin_object()?;
+    body.key("subject")?;
+    body.string(entry.subject.as_str())?;
+    body.key("version")?;
+    body.u64(u64::from(entry.version))?;
+    body.key("id")?;
+    body.u64(u64::from(entry.id))?;
+    body.key("schema")?;
+    body.string(entry.text.as_str())?;
+    body.end_object()?;
+    ended(body)
 }
 
-/// The text of a schema.
+/// Makes the body with the text of a schema.
 pub(crate) fn schema_body(alloc: Global, text: &str) -> Result<Text, AllocError>
     ensures { IfOk result (λ body. body ≡ spec.schema_body text.now) }
 {
-    let text = quoted(alloc, text)?;
-    Text::of_string(format!(in alloc; "{{\"schema\":{text}}}")?)
+    let mut body = body_for(alloc, text)?;
+    body.begin_object()?;
+    body.key("schema")?;
+    body.string(text)?;
+    body.end_object()?;
+    ended(body)
 }
 
-/// A refusal's code and message.
+/// Begins a body that has room for this text, its quotes and backslashes escaped, and for short
+/// members beside it. So most bodies take one allocation.
+fn body_for(alloc: Global, text: &str) -> Result<Writer, AllocError>
+    ensures before { IfOk result (λ body. body.before ≡ []) }
+    ensures tokens { IfOk result (λ body. body.tokens ≡ []) }
+{
+    let room = text
+        .len()
+        .saturating_add(text.len() / 3)
+        .saturating_add(SHORT_MEMBERS);
+    Ok(Writer::new(Vec::with_capacity(alloc, room)?))
+}
+
+/// Ends a body. The only error is out of memory.
+fn ended(body: Writer) -> Result<Text, AllocError>
+    requires { body.before ≡ [] }
+    ensures { IfOk result (λ text. text ≡ print body.tokens) }
+{
+    match String::from_utf8(body.into_inner()) {
+        Ok(text) => Text::of_string(text),
+        Err(_) => unreachable!(),
+    }
+}
+
+/// Makes the body of a refusal: its code and message.
 pub(crate) fn refusal_body(alloc: Global, refusal: &Refusal) -> Result<Text, AllocError>
     ensures { IfOk result (λ body. body ≡ spec.refusal_body refusal.now) }
 {
@@ -92,8 +125,8 @@ pub(crate) fn refusal_body(alloc: Global, refusal: &Refusal) -> Result<Text, All
     Text::of_string(format!(in alloc; "{{\"error_code\":{code},\"message\":{message}}}")?)
 }
 
-/// Whether a level is met, and where messages are asked for that of the clash, if there is one. The
-/// message is written once, where it stands: it may be long.
+/// Makes the body that says whether a level is met; with `verbose` also the message of the clash,
+/// if there is one. The message may be long, so it is written in place, once.
 pub(crate) fn check_body(
     alloc: Global,
     verbose: bool,
@@ -114,7 +147,7 @@ pub(crate) fn check_body(
     Text::of_string(body)
 }
 
-/// A text that ends inside of a JSON string, with the message of a clash behind it.
+/// Appends the message of a clash, escaped, to a text that ends inside of a JSON string.
 fn with_message(alloc: Global, front: String, clash: ClashMessage<'_>) -> Result<String, AllocError>
     ensures { IfOk result (λ text. string_bytes text ≡ string_bytes front ++ escape (text_of clash.entry)) }
 {
@@ -125,7 +158,7 @@ fn with_message(alloc: Global, front: String, clash: ClashMessage<'_>) -> Result
     }
 }
 
-/// The name of a level.
+/// Makes the body with the name of a level.
 pub(crate) fn level_body(alloc: Global, name: &str) -> Result<Text, AllocError>
     ensures { IfOk result (λ body. body ≡ spec.level_body name.now) }
 {
@@ -133,7 +166,7 @@ pub(crate) fn level_body(alloc: Global, name: &str) -> Result<Text, AllocError>
     Text::of_string(format!(in alloc; "{{\"compatibilityLevel\":{name}}}")?)
 }
 
-/// The name of a mode.
+/// Makes the body with the name of a mode.
 pub(crate) fn mode_body(alloc: Global, name: &str) -> Result<Text, AllocError>
     ensures { IfOk result (λ body. body ≡ spec.mode_body name.now) }
 {

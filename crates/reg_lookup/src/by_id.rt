@@ -12,7 +12,7 @@ use reg_modes::base_text::Text;
 use reg_modes::reg_fold::{Entry, Refusal, Registry};
 use std::alloc::Global;
 
-/// The schema that an id names.
+/// Finds the schema that an id names. Refused with `SchemaNotFound` if it names none.
 pub(crate) fn schema_by_id(alloc: Global, registry: &Registry, id: u32) -> Result<Text, LookupError>
     ensures found { IfOk result (λ body. spec.schema_by_id registry.now id ≡ Ok body) }
     ensures refused { IfErr result (IsRefusalOf (spec.schema_by_id registry.now id)) }
@@ -23,7 +23,8 @@ pub(crate) fn schema_by_id(alloc: Global, registry: &Registry, id: u32) -> Resul
     Ok(schema_body(alloc, entry.text.as_str())?)
 }
 
-/// The subjects and versions that count of an id.
+/// Lists the subjects and versions of an id, soft-deleted ones only with `deleted`. Refused with
+/// `SchemaNotFound` if no version has the id, live or soft-deleted.
 pub(crate) fn id_versions(
     alloc: Global,
     registry: &Registry,
@@ -41,7 +42,7 @@ pub(crate) fn id_versions(
     Ok(places_body(alloc, &found)?)
 }
 
-/// Leaves those that count.
+/// Keeps the live entries, and with `deleted` all.
 fn keep_counting(found: &mut Vec<&Entry>, deleted: bool)
     ensures { found.new.items ≡ filter (λ e. counts deleted e.now) found.old.items }
 {

@@ -14,7 +14,9 @@ use reg_modes::base_text::Text;
 use reg_modes::reg_fold::{Entry, Refusal, Registry};
 use std::alloc::Global;
 
-/// The greatest version of a subject with the schema of a text.
+/// Finds the latest version of a subject that has the schema of a text. Refused with
+/// `InvalidSchema` if the text isn't a schema, with `SubjectNotFound` if the subject has no version
+/// that is looked at, and else with `SchemaNotFound`.
 pub(crate) fn lookup(
     alloc: Global,
     registry: &Registry,
@@ -36,7 +38,7 @@ pub(crate) fn lookup(
     }
 }
 
-/// Of entries whose versions rise the greatest of a normal text.
+/// Returns the last entry, and so the latest version, with this normal text.
 fn latest_with<'a>(entries: &[&'a Entry], normal: &str) -> Option<&'a Entry>
     requires { AreInVersionOrder (map (λ e. e.now) entries.now) }
     ensures { option_copied result ≡ newest (filter (has_schema normal.now) (map (λ e. e.now) entries.now)) }

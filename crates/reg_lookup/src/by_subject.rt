@@ -11,7 +11,8 @@ use reg_modes::base_text::Text;
 use reg_modes::reg_fold::{Registry, VersionRef};
 use std::alloc::{AllocError, Global};
 
-/// The list of a subject's versions that count.
+/// Lists a subject's live versions, and with `deleted` the soft-deleted ones too. Refused with
+/// `SubjectNotFound` if there are none.
 pub(crate) fn versions(
     alloc: Global,
     registry: &Registry,
@@ -25,7 +26,8 @@ pub(crate) fn versions(
     Ok(versions_body(alloc, &found)?)
 }
 
-/// The list of the subjects with a version that counts. The only error is out of memory.
+/// Lists the subjects with a live version, or with `deleted` any version. The only error is out of
+/// memory.
 pub(crate) fn subjects(
     alloc: Global,
     registry: &Registry,
@@ -36,7 +38,7 @@ pub(crate) fn subjects(
     subjects_body(alloc, &registry.subjects(deleted)?)
 }
 
-/// A version of a subject.
+/// Finds a version of a subject.
 pub(crate) fn version(
     alloc: Global,
     registry: &Registry,
@@ -51,7 +53,7 @@ pub(crate) fn version(
     Ok(entry_body(alloc, found)?)
 }
 
-/// The text of a version's schema.
+/// Finds the text of a version's schema.
 pub(crate) fn version_schema(
     registry: &Registry,
     subject: &str,

@@ -28,11 +28,11 @@ use reg_modes::reg_level_names::Level;
 use std::alloc::{AllocError, Global};
 use std::marker::Model;
 
-/// What a check is answered on: the level in force for the subject, and the versions that it looks at
-/// of those that are asked, with copies of their texts, or why there are none.
+/// What a compatibility check is answered from: the level in force for the subject, and copies of
+/// the versions that it looks at, or the refusal if the named version isn't found.
 ///
-/// It is taken from a registry, and then answers without it: reading and comparing schemas may take
-/// long.
+/// It is copied from a registry and then answers without it, since reading and comparing schemas
+/// may take long.
 #[derive(Debug, Drop)]
 pub struct Grounds {
     level: Level,
@@ -51,8 +51,8 @@ impl Model for Grounds {
 }
 
 impl Grounds {
-    /// What a check of a subject is answered on, against its live versions, or the one of them that is
-    /// named. The only error is out of memory.
+    /// Copies what a check of a subject needs: its live versions that the level looks at, or with
+    /// `which` that live version. The only error is out of memory.
     pub fn of(
         alloc: Global,
         registry: &Registry,
@@ -75,8 +75,9 @@ impl Grounds {
         }
     }
 
-    /// The answer whether a schema may follow, over each registry that it could be taken from. A schema
-    /// that can't be read is refused first. The only error is out of memory.
+    /// Answers whether the schema of a text is compatible, as [`crate::answer`] does over each
+    /// registry that this could be copied from. A text that isn't a schema, or has an invalid
+    /// default, is refused first. The only error is out of memory.
     pub fn answer(self, alloc: Global, text: &str, verbose: bool) -> Result<Answer, AllocError>
         ensures { IfOk result (λ a. (rs : Records) (subject : List ℕ) (which : Option VersionRef)
             → self ≡ checked_on rs subject which → IsAnswer rs (Check subject which text.now verbose) a) }
@@ -86,7 +87,7 @@ impl Grounds {
     }
 }
 
-/// The answer of a check over a registry. The only error is out of memory.
+/// Answers a check over a registry. The only error is out of memory.
 pub(crate) fn check_answer(
     alloc: Global,
     registry: &Registry,
@@ -101,7 +102,7 @@ pub(crate) fn check_answer(
     grounds.answer(alloc, text, verbose)
 }
 
-/// Whether a schema is compatible with the versions that are asked, all of which the level looks at.
+/// Answers whether a schema is compatible with these versions, all of which the level looks at.
 fn answer_on(
     alloc: Global,
     level: Level,
@@ -121,7 +122,7 @@ fn answer_on(
     }
 }
 
-/// The verdict of a level on a schema against those versions.
+/// Checks a schema against these versions under a level.
 fn verdict_on(
     alloc: Global,
     level: Level,
@@ -140,7 +141,7 @@ fn verdict_on(
     }
 }
 
-/// The verdict of a level on a schema. The only error is out of memory.
+/// Checks a schema against these versions under a level. The only error is out of memory.
 fn check_each(
     alloc: Global,
     level: Level,
@@ -154,7 +155,8 @@ fn check_each(
     check_read_texts(alloc, level, schema, &lent)
 }
 
-/// The schema of a text, where its defaults are valid.
+/// Reads the schema of a text. Refused with `InvalidSchema` if it isn't one, or if a default isn't
+/// valid.
 fn sound_schema(alloc: Global, text: &str) -> Result<Schema, LookupError>
     ensures found { IfOk result (λ schema. read_sound_schema text.now ≡ Ok schema) }
     ensures means { IfOk result (λ schema. schema_of text.now ≡ Some schema) }
@@ -169,8 +171,8 @@ fn sound_schema(alloc: Global, text: &str) -> Result<Schema, LookupError>
     Ok(schema)
 }
 
-/// The versions that a schema is checked against, with their texts: a subject's live ones, or the
-/// one of them that is named.
+/// Returns the versions that a schema is checked against, with their texts: a subject's live ones,
+/// or the one of them that is named.
 fn olds_asked<'a>(
     alloc: Global,
     registry: &'a Registry,
@@ -197,7 +199,7 @@ fn olds_asked<'a>(
     }
 }
 
-/// What is said of a verdict; of a clash only where `verbose` is true.
+/// Makes the body of a verdict; the message of a clash only if `verbose` is true.
 fn verdict_body(alloc: Global, verbose: bool, verdict: &LevelVerdict) -> Result<Text, AllocError>
     ensures { IfOk result (λ body. body ≡ bodies.check_body verbose verdict.now.ok (message_of verdict.now)) }
 {

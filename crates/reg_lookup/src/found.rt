@@ -7,8 +7,8 @@ ghost use Rattle.reg_lookup.specs.Gives.{IsRefusalOf};
 use crate::error::LookupError;
 use reg_modes::reg_fold::{Entry, Refusal, Registry, VersionRef};
 
-/// The entries of a subject that count, by version: the live ones, and where `deleted` is true all.
-/// Refused where none does.
+/// Returns a subject's live entries, and with `deleted` the soft-deleted ones too, by version.
+/// Refused with `SubjectNotFound` if there are none.
 pub(crate) fn counted<'a>(
     registry: &'a Registry,
     subject: &str,
@@ -24,8 +24,8 @@ pub(crate) fn counted<'a>(
     Ok(found)
 }
 
-/// The entry of a subject that is meant. Refused where none of the subject counts, and where that
-/// one doesn't. No list is made.
+/// Finds a version of a subject without making a list. Refused with `SubjectNotFound` if the
+/// subject has no version that is looked at, and else with `VersionNotFound`.
 pub(crate) fn version_found<'a>(
     registry: &'a Registry,
     subject: &str,

@@ -6,8 +6,8 @@ use reg_modes::reg_records::quoted;
 use std::alloc::{AllocError, Global};
 use std::fmt;
 
-/// A text that ends inside of a JSON string: what is written to it is escaped there, so that it
-/// stands nowhere else.
+/// A text that ends inside of a JSON string. What is written to it is escaped and appended, piece
+/// by piece.
 #[derive(Drop)]
 pub(crate) struct InString {
     pub text: String,
@@ -15,7 +15,7 @@ pub(crate) struct InString {
 }
 
 impl InString {
-    /// A text so far.
+    /// Begins with this text.
     pub(crate) fn of(memory: Global, text: String) -> InString
         ensures { result.text ≡ text }
     {
@@ -34,7 +34,7 @@ impl fmt::Write for InString {
     }
 }
 
-/// Adds a part as it stands in a JSON string.
+/// Appends a part, escaped for a JSON string.
 fn push_escaped(alloc: Global, text: &mut String, part: &str) -> Result<(), AllocError>
     ensures { OnOk result (string_bytes text.new ≡ string_bytes text.old ++ escape part.now) }
 {
@@ -48,8 +48,8 @@ fn push_escaped(alloc: Global, text: &mut String, part: &str) -> Result<(), Allo
     }
 }
 
-/// Whether a text stands in a JSON string as it is. Each byte is looked at, which is faster than to
-/// stop at the first that isn't plain.
+/// Returns whether a text needs no escapes. Each byte is looked at, which is faster than stopping
+/// at the first that isn't plain.
 fn is_plain(text: &str) -> bool
     ensures { IsTrue result → escape text.now ≡ text.now }
 {
@@ -66,7 +66,7 @@ fn is_plain_byte(byte: u8) -> bool
     (byte >= b' ') & (byte != b'"') & (byte != b'\\')
 }
 
-/// What stands between the quotes of a JSON string.
+/// Returns what is between the quotes of a JSON string.
 fn between_quotes(written: &str) -> Option<&str>
     ensures { (text : List ℕ) → written.now ≡ spec_quoted text → option_copied result ≡ Some (escape text) }
 {

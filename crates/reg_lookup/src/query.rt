@@ -2,59 +2,62 @@
 use reg_modes::base_text::Text;
 use reg_modes::reg_fold::VersionRef;
 
-/// What is asked of a registry. Where `deleted` is true, soft-deleted versions count as live ones.
+/// A query to a registry. With `deleted`, soft-deleted versions are looked at like live ones.
 #[derive(Debug, Drop, PartialEq, Eq)]
 pub enum Query {
-    /// The schema that an id names, soft-deleted or not.
+    /// Asks for the schema that an id names, live or soft-deleted.
     SchemaById {
         id: u32,
     },
-    /// The versions that have an id.
+    /// Asks for the subjects and versions that have an id.
     IdVersions {
         id: u32,
         deleted: bool,
     },
-    /// The subjects.
+    /// Asks for the subjects that have a version.
     Subjects {
         deleted: bool,
     },
-    /// The greatest version of a subject with the schema of a text.
+    /// Asks for the latest version of a subject that has the schema of a text.
     Lookup {
         subject: Text,
         text: Text,
         deleted: bool,
     },
-    /// The versions of a subject.
+    /// Asks for the versions of a subject.
     Versions {
         subject: Text,
         deleted: bool,
     },
-    /// A version of a subject.
+    /// Asks for a version of a subject.
     Version {
         subject: Text,
         version: VersionRef,
         deleted: bool,
     },
-    /// The text of a version's schema.
+    /// Asks for the bare text of a version's schema.
     VersionSchema {
         subject: Text,
         version: VersionRef,
         deleted: bool,
     },
-    /// Whether the schema of a text may follow under the level in force: against that live version
-    /// alone, or without one against all pairs that the level requires; with `verbose` also why not.
+    /// Asks whether the schema of a text is compatible under the level in force: with one live
+    /// version, or without `version` with those that the level looks at. With `verbose`, the answer
+    /// also says why not.
     Check {
         subject: Text,
         version: Option<VersionRef>,
         text: Text,
         verbose: bool,
     },
-    /// The level in force for all, or the subject's own; with `default_global` the one in force for it.
+    /// Asks for the global level in force, or for the subject's own; with `default_global` for the
+    /// one in force for the subject.
     Level {
         subject: Option<Text>,
         default_global: bool,
     },
-    /// The mode in force for all, or the subject's own; with `default_global` the one in force for it.
+    /// Asks for the global mode in force, or for the subject's own; with `default_global` for the
+    /// one in force for the subject.
     Mode {
         subject: Option<Text>,
         default_global: bool,

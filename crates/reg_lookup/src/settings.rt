@@ -11,7 +11,8 @@ use reg_modes::reg_level_names::Level;
 use reg_modes::{Mode, mode_in_force, own_mode};
 use std::alloc::Global;
 
-/// The level of a subject, or that in force for all.
+/// Finds the global level in force, or a subject's own; with `default_global` the one in force for
+/// it. Refused with `SubjectHasNoLevel` if the subject has none of its own.
 pub(crate) fn level_found(
     alloc: Global,
     registry: &Registry,
@@ -37,7 +38,8 @@ fn asked_level(registry: &Registry, subject: Option<&str>, default_global: bool)
     }
 }
 
-/// The mode of a subject, or that in force for all.
+/// Finds the global mode in force, or a subject's own; with `default_global` the one in force for
+/// it. Refused with `SubjectHasNoMode` if the subject has none of its own.
 pub(crate) fn mode_found(
     alloc: Global,
     registry: &Registry,

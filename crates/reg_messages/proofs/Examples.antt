@@ -1,9 +1,10 @@
--- What the definitions give for some fields.
-use Rattle.std.proofs.Common.{◌≡◌, ◌∷◌, [], List, ℕ, true, Some, refl, codes}
+-- What the definitions give for some fields and types.
+use Rattle.std.proofs.Common.{◌≡◌, ◌∷◌, [], List, ℕ, true, false, Some, refl, codes}
 use Rattle.std.specs.Prelude.{Ok, Err}
 use Rattle.httparse.specs.Grammar.{trim_ows}
 use Rattle.reg_refusals.specs.declared.refusal.Refusal.TheVariants as refusals
 use Rattle.reg_messages.specs.Fields.{told_length, asks_to_close}
+use Rattle.reg_messages.specs.Types.{is_accepted}
 use Rattle.reg_messages.specs.declared.field.HeaderField.{HeaderField}
 
 field : List ℕ → List ℕ → HeaderField
@@ -25,3 +26,11 @@ leading_zeros = refl
 closes_in_a_list : asks_to_close (field (codes "CONNECTION") (codes "keep-alive , Close") ∷ []) ≡ true
 unfolding field trim_ows
 closes_in_a_list = refl
+
+a_type_with_parameters : is_accepted (codes "Application/JSON ; charset=utf-8") ≡ true
+unfolding trim_ows
+a_type_with_parameters = refl
+
+an_empty_type : is_accepted [] ≡ false
+unfolding trim_ows
+an_empty_type = refl

@@ -4,13 +4,16 @@ use Rattle.std.proofs.Common.{refl, sym, ap, subst, ◌∙◌, inl, inr, arith, 
 use Rattle.std.specs.Prelude.{Result, Ok, Err, Option, IfSome, not, nat_lt, codes}
 use Rattle.std.specs.Str.Parse.{digits_value}
 use Rattle.std.proofs.lemmas.List.{append_assoc, take-append-drop, length-take-le}
-use Rattle.std.proofs.Math.Seq.{drop-append-add, take-suc, take-append-add}
+use Rattle.std.proofs.Math.Seq.{drop-append_seam, take-suc, take-append-add}
 use Rattle.std.specs.List.{list_all}
 use Rattle.httparse.specs.Grammar.{RequestHead}
 use Rattle.reg_refusals.specs.declared.refusal.Refusal.{Refusal}
 use Rattle.reg_refusals.specs.declared.refusal.Refusal.TheVariants as refusals
 use Rattle.reg_messages.specs.Fields.{body_length, is_length, length_of, told_length, values_of}
+use Rattle.reg_messages.specs.FrontRead.{IsFrontOf, IsReadOf}
 use Rattle.reg_messages.specs.declared.field.HeaderField.{HeaderField}
+use Rattle.reg_messages.specs.declared.front.FrontRead.{FrontRead}
+use Rattle.reg_messages.specs.declared.head_read.HeadRead.{HeadRead}
 use Rattle.reg_messages.specs.Head.{Front, ends_in_empty_line, cut_head, front_of, has_few_lines, head, no_head, over, is_skipped, IsHead}
 use Rattle.reg_messages.specs.HeadReading.{HasNoEnd}
 use Rattle.reg_messages.specs.Messages.{fields_of}
@@ -52,20 +55,6 @@ module _ (text blank rest tail : List ℕ) (n : ℕ) (is : text ≡ blank ++ (re
       ≡ (if has_few_lines (take n rest) then head (take n rest) more else no_head refusals.HeadTooLarge)
   found more = front-found blank rest more n (n - 1) (omega (arith, ends.0)) all kept ends.1 ends.2 few fits
 
-  -- what stands at the front of the text
-  pub front-here : front_of text
-      ≡ (if has_few_lines (take n rest) then head (take n rest) (drop n rest ++ tail) else no_head refusals.HeadTooLarge)
-  front-here = ap front_of onwards ∙ found (drop n rest ++ tail)
-
-  -- what stands after the head
-  pub after-head : drop (length blank + n) text ≡ drop n rest ++ tail
-  after-head =
-      let size : length (take n rest) ≡ n = length-take-le n rest few in
-      ap (λ t. drop (length blank + n) t) onwards
-      ∙ ap (λ m. drop m (blank ++ (take n rest ++ (drop n rest ++ tail)))) (omega (arith, size))
-      ∙ drop-append-add blank (take n rest ++ (drop n rest ++ tail)) (length (take n rest) + 0)
-      ∙ drop-append-add (take n rest) (drop n rest ++ tail) 0
-
   -- the head and so many bytes after it
   front-is : (k : ℕ) → take (length blank + n + k) text ≡ blank ++ (take n rest ++ take k (drop n rest ++ tail))
   front-is k =
@@ -74,6 +63,16 @@ module _ (text blank rest tail : List ℕ) (n : ℕ) (is : text ≡ blank ++ (re
       ∙ ap (λ m. take m (blank ++ (take n rest ++ (drop n rest ++ tail)))) (omega (arith, size))
       ∙ take-append-add blank (take n rest ++ (drop n rest ++ tail)) (length (take n rest) + k)
       ∙ ap (λ w. blank ++ w) (take-append-add (take n rest) (drop n rest ++ tail) k)
+
+  -- the bytes up to the end of the head
+  taken-is : take (length blank + n) text ≡ blank ++ take n rest
+  taken-is = subst (λ k. take k text ≡ blank ++ take n rest) (omega arith) (front-is 0 ∙ ap (λ w. blank ++ w) (append-nil (take n rest)))
+
+  -- and what stands at their front, whatever comes after them
+  taken-front : (more : List ℕ)
+      → front_of (take (length blank + n) text ++ more)
+      ≡ (if has_few_lines (take n rest) then head (take n rest) more else no_head refusals.HeadTooLarge)
+  taken-front more = ap (λ t. front_of (t ++ more)) taken-is ∙ ap front_of (append_assoc blank (take n rest) more) ∙ found more
 
   -- how many bytes stand after the head
   pub size-after : length (drop n rest ++ tail) + (length blank + n) ≡ length text
@@ -84,6 +83,50 @@ module _ (text blank rest tail : List ℕ) (n : ℕ) (is : text ≡ blank ++ (re
       ∙ length-append blank (take n rest ++ (drop n rest ++ tail))
       ∙ ap (λ k. length blank + k) (length-append (take n rest) (drop n rest ++ tail)) in
       omega (arith, whole, size)
+
+  -- what was read of a head that has few lines
+  pub reads-head : (len : ℕ) (r : Result HeadRead Refusal) → has_few_lines (take n rest) ≡ true → length blank + n ≤ len
+      → IsReadOf (take n rest) r → IsFrontOf text (record { start = length blank; end = length blank + n; len = len; read = record { read = r } })
+  reads-head len (Ok read) lines more is =
+      let size : length (take n rest) ≡ n = length-take-le n rest few in
+      let bytes_are : drop (length blank) (take (length blank + n) text) ≡ take n rest =
+      ap (λ t. drop (length blank) t) taken-is ∙ drop-append_seam blank (take n rest) in (
+        more,
+        omega (arith, size-after),
+        (
+          omega (arith, ap length taken-is, length-append blank (take n rest), size),
+          λ after.
+              taken-front after ∙ ap (λ f. if f then head (take n rest) after else no_head refusals.HeadTooLarge) lines
+              ∙ ap (λ b. head b after) (sym bytes_are),
+          subst (λ b. IsReadOf b (Ok read)) (sym bytes_are) is,
+        ),
+      )
+  reads-head len (Err refusal) lines more is = (
+    more,
+    omega (arith, size-after),
+    λ after.
+        inr (
+          take n rest,
+          after,
+          taken-front after ∙ ap (λ f. if f then head (take n rest) after else no_head refusals.HeadTooLarge) lines,
+          is,
+        ),
+  )
+
+  -- too many lines are refused
+  pub reads-lines : has_few_lines (take n rest) ≡ false
+      → IsFrontOf text (record {
+        start = 0;
+        end = length blank + n;
+        len = length blank + n;
+        read = record { read = Err refusals.HeadTooLarge };
+      })
+  reads-lines many = (
+    omega arith,
+    omega (arith, size-after),
+    λ after.
+        inl (taken-front after ∙ ap (λ f. if f then head (take n rest) after else no_head refusals.HeadTooLarge) many),
+  )
 
   -- too many lines are no head
   whole-lines : has_few_lines (take n rest) ≡ false → IsWhole (take (length blank + n + 0) text)
@@ -159,21 +202,16 @@ lacks-ended text blank rest (t ∷ tail) is all kept none size few fewer =
     absurd (omega (arith, ap length is, length-append blank (rest ++ t ∷ tail), length-append rest (t ∷ tail), size))
 
 -- no empty line among as many bytes as a head may have, and not only skipped bytes, or more than so many
-whole-none : (text blank rest tail : List ℕ) → text ≡ blank ++ (rest ++ tail) → list_all is_skipped blank ≡ true → BeginsKept rest
-    → HasNoEnd [] rest → length blank + length rest ≡ HEAD_LIMIT → (length rest ≡ 0 → HEAD_LIMIT < length text) → IsWhole text
-whole-none text blank [] tail is all kept none full long = inl (
-  refusals.HeadTooLarge,
-  λ more.
-      front_of-blank (text ++ more) blank (tail ++ more) (ap (λ t. t ++ more) is ∙ append_assoc blank tail more) all
-      (omega (arith, full)) (omega (arith, long refl, length-append text more)),
-)
-whole-none text blank (x ∷ xs) tail is all kept none full long = inl (
-  refusals.HeadTooLarge,
-  λ more.
-      front_of-full (text ++ more) blank xs (tail ++ more) x kept all none.1
-      (ap (λ t. t ++ more) is ∙ append_assoc blank (x ∷ (xs ++ tail)) more ∙ ap (λ w. blank ++ (x ∷ w)) (append_assoc xs tail more))
-      (omega (arith, full)),
-)
+never-none : (text blank rest tail : List ℕ) → text ≡ blank ++ (rest ++ tail) → list_all is_skipped blank ≡ true → BeginsKept rest
+    → HasNoEnd [] rest → length blank + length rest ≡ HEAD_LIMIT → (length rest ≡ 0 → HEAD_LIMIT < length text)
+    → (more : List ℕ) → front_of (text ++ more) ≡ no_head refusals.HeadTooLarge
+never-none text blank [] tail is all kept none full long more =
+    front_of-blank (text ++ more) blank (tail ++ more) (ap (λ t. t ++ more) is ∙ append_assoc blank tail more) all
+    (omega (arith, full)) (omega (arith, long refl, length-append text more))
+never-none text blank (x ∷ xs) tail is all kept none full long more =
+    front_of-full (text ++ more) blank xs (tail ++ more) x kept all none.1
+    (ap (λ t. t ++ more) is ∙ append_assoc blank (x ∷ (xs ++ tail)) more ∙ ap (λ w. blank ++ (x ∷ w)) (append_assoc xs tail more))
+    (omega (arith, full))
 
 -- the first bytes of a text, those of two parts and more
 take-more : (blank rest tail : List ℕ) (k : ℕ)
@@ -186,23 +224,27 @@ pub least : (m : ℕ) → (m ≡ 0) ⊎ (0 < m)
 least zero = inl refl
 least (suc m) = inr (omega arith)
 
-pub ends-none : (text blank rest tail : List ℕ) (n : ℕ) → text ≡ blank ++ (rest ++ tail)
-    → list_all is_skipped blank ≡ true → BeginsKept rest
-    → HasNoEnd [] rest → length blank + length rest ≡ HEAD_LIMIT
-    → (length rest ≡ 0 → n ≡ HEAD_LIMIT + 1) → (0 < length rest → n ≡ HEAD_LIMIT)
-    → n ≤ length text → EndsAt text n
-ends-none text blank rest tail n is all kept none full only begun room =
-    let k = n - HEAD_LIMIT in
-    let parts : n ≡ length blank + (length rest + k) = elim (least (length rest)) [
-      | inl none ↦ omega (arith, only none, full)
-      | inr more ↦ omega (arith, begun more, full)
-    ] in
-    let front : take n text ≡ blank ++ (rest ++ take k tail) =
-    ap (λ m. take m text) parts ∙ ap (λ t. take (length blank + (length rest + k)) t) is ∙ take-more blank rest tail k in
-    let size : length (take n text) ≡ n = length-take-le n text room in (
-      λ _. whole-none (take n text) blank rest (take k tail) front all kept none full (λ nothing. omega (arith, only nothing, size)),
-      λ less. absurd (omega (arith, less, room)),
-    )
+module _ (text blank rest tail : List ℕ) (n : ℕ) (is : text ≡ blank ++ (rest ++ tail)) (all : list_all is_skipped blank ≡ true)
+    (kept : BeginsKept rest) (none : HasNoEnd [] rest) (full : length blank + length rest ≡ HEAD_LIMIT)
+    (only : length rest ≡ 0 → n ≡ HEAD_LIMIT + 1) (begun : 0 < length rest → n ≡ HEAD_LIMIT) (room : n ≤ length text) where
+  -- so many bytes are refused, whatever comes after them
+  refused-none : (more : List ℕ) → front_of (take n text ++ more) ≡ no_head refusals.HeadTooLarge
+  refused-none more =
+      let k = n - HEAD_LIMIT in
+      let parts : n ≡ length blank + (length rest + k) = elim (least (length rest)) [
+        | inl nothing ↦ omega (arith, only nothing, full)
+        | inr some ↦ omega (arith, begun some, full)
+      ] in
+      let front : take n text ≡ blank ++ (rest ++ take k tail) =
+      ap (λ m. take m text) parts ∙ ap (λ t. take (length blank + (length rest + k)) t) is ∙ take-more blank rest tail k in
+      let size : length (take n text) ≡ n = length-take-le n text room in
+      never-none (take n text) blank rest (take k tail) front all kept none full (λ nothing. omega (arith, only nothing, size)) more
+
+  pub ends-none : EndsAt text n
+  ends-none = (λ _. inl (refusals.HeadTooLarge, refused-none), λ less. absurd (omega (arith, less, room)))
+
+  pub reads-none : IsFrontOf text (record { start = 0; end = n; len = n; read = record { read = Err refusals.HeadTooLarge } })
+  reads-none = (omega arith, room, λ more. inl (refused-none more))
 
 -- what a text says of the message at its front, where nothing came after it yet
 pub takes-now : (part : List ℕ) (n : ℕ) → TakesInAll part n → EndsAt part n
@@ -254,8 +296,8 @@ pub in-parts : (text window blank rest : List ℕ) (l b : ℕ) → window ≡ ta
 in-parts text window blank rest l b is front back more =
     ap (λ t. t ++ more) (in-window text window blank rest l b is front back) ∙ append_assoc blank (rest ++ drop l text) more ∙ ap (λ t. blank ++ t) (append_assoc rest (drop l text) more)
 
--- how many bytes a message takes, if they are known
-pub takes-all : (known : Option ℕ) (part : List ℕ)
-    → ((more : List ℕ) → IfSome known (EndsAt (part ++ more))) → IfSome known (TakesInAll part)
+-- how many bytes a message takes, if that is known
+pub takes-all : (known : Option FrontRead) (part : List ℕ)
+    → ((more : List ℕ) → IfSome known (λ front. EndsAt (part ++ more) front.len)) → IfSome known (λ front. TakesInAll part front.len)
 takes-all None part ends = tt
-takes-all (Some n) part ends = ends
+takes-all (Some front) part ends = ends

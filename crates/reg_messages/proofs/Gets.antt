@@ -9,7 +9,7 @@ use Rattle.std.proofs.Math.Seq.{drop-append_seam, take-append_seam}
 use Rattle.httparse.specs.Grammar.{RequestHead}
 use Rattle.reg_messages.specs.Fields.{body_length, told_length}
 use Rattle.reg_messages.specs.BodyReading.{LosesBody, TakesAll, TakesBody}
-use Rattle.reg_messages.specs.Head.{front_of, head, IsHead}
+use Rattle.reg_messages.specs.Head.{front_of, IsHead}
 use Rattle.reg_messages.specs.HeadReading.{IsTakenAs}
 use Rattle.reg_messages.specs.Reading.{GetsFrom, IsShort, TakesShort}
 use Rattle.reg_messages.specs.ReadingSteps.{GetsAfter, GetsWith}
@@ -17,11 +17,12 @@ use Rattle.reg_messages.specs.Messages.{after_body, body_after, body_in, fields_
 use Rattle.reg_messages.specs.declared.body_reading.Body.TheVariants as bodies
 use Rattle.reg_messages.specs.declared.reading.Got.{Got}
 use Rattle.reg_messages.specs.declared.reading.Got.TheVariants as gots
+use Rattle.reg_messages.specs.declared.request.Request.{Request}
 use Rattle.reg_messages.proofs.Fronts.{short-known}
 use Rattle.reg_messages.proofs.Places.{told-ok}
 
 -- a message after its head
-pub gets-after : (start mid new : Option (List ℕ)) (taken bytes : List ℕ) (h : RequestHead) (got : Got) → Consumes start mid taken
+pub gets-after : (start mid new : Option (List ℕ)) (taken bytes : List ℕ) (h : RequestHead) (got : Got Request) → Consumes start mid taken
     → IsTakenAs taken bytes → IsHead bytes h → GetsAfter h mid new got → IfSome start (λ text. GetsFrom text new got)
 gets-after None mid new taken bytes h got took known is gets = tt
 gets-after (Some x) None new taken bytes h got took known is gets = absurd took
@@ -32,15 +33,6 @@ gets-after (Some x) (Some y) new taken bytes h (gots.Message request told wants)
     (bytes, h, y, (ap front_of took ∙ known y, is, told-ok (fields_of h) told length, left), same, length, wanted)
 gets-after (Some x) (Some y) new taken bytes h (gots.NoMemory wants) took known is (ok, wanted, left) =
     (bytes, h, y, (ap front_of took ∙ known y, is, ok, left), wanted)
-
--- a message whose head stands at the front of a text
-pub gets-held : (text bytes after : List ℕ) (left : Option (List ℕ)) (h : RequestHead) (got : Got) → front_of text ≡ head bytes after
-    → IsHead bytes h → GetsAfter h (Some after) left got → GetsFrom text left got
-gets-held text bytes after left h gots.Over front is gets = absurd gets
-gets-held text bytes after left h (gots.Refused refusal) front is told = inr (bytes, after, front, inr (h, is, told))
-gets-held text bytes after left h (gots.Message request told wants) front is (length, wanted, (rest, same)) =
-    (bytes, h, after, (front, is, told-ok (fields_of h) told length, rest), same, length, wanted)
-gets-held text bytes after left h (gots.NoMemory wants) front is (ok, wanted, rest) = (bytes, h, after, (front, is, ok, rest), wanted)
 
 -- a body that is cut is short of a message
 pub short-body : (start mid new : Option (List ℕ)) (taken bytes : List ℕ) (h : RequestHead) → Consumes start mid taken
@@ -81,7 +73,7 @@ body-short len bytes x y few is ended =
     rw beyond refl
 
 -- a message with the body that was taken, or none where memory was refused
-gets-with : (h : RequestHead) (old new : Option (List ℕ)) (told : Option ℕ) (body : Option (List ℕ)) (wants : Bool) (got : Got)
+gets-with : (h : RequestHead) (old new : Option (List ℕ)) (told : Option ℕ) (body : Option (List ℕ)) (wants : Bool) (got : Got Request)
     → told_length (fields_of h) ≡ Ok told
     → wants ≡ wants_close h → IfSome old (λ after. new ≡ Some (after_body h after)) → IfSome old (λ after. body ≡ body_after h after)
     → GetsWith h told body wants got → GetsAfter h old new got
@@ -96,7 +88,7 @@ gets-with h None new told body wants (gots.NoMemory wants') length wanted left i
 gets-with h (Some x) new told body wants (gots.NoMemory wants') length wanted left is as_wanted =
     (told-ok (fields_of h) told length, as_wanted ∙ wanted, left)
 
-pub gets-whole : (h : RequestHead) (old new : Option (List ℕ)) (told : Option ℕ) (bytes : List ℕ) (wants : Bool) (got : Got)
+pub gets-whole : (h : RequestHead) (old new : Option (List ℕ)) (told : Option ℕ) (bytes : List ℕ) (wants : Bool) (got : Got Request)
     → told_length (fields_of h) ≡ Ok told
     → wants ≡ wants_close h → TakesBody old new (body_length (fields_of h)) (bodies.Whole bytes)
     → GetsWith h told (Some bytes) wants got → GetsAfter h old new got
@@ -107,7 +99,7 @@ gets-whole h (Some x) (Some y) told bytes wants got length wanted (many, took) g
     gets-with h (Some x) (Some y) told (Some bytes) wants got length wanted (left-whole (body_length (fields_of h)) bytes x y many took)
     (body-whole (body_length (fields_of h)) bytes x y many took) gets
 
-pub gets-short : (h : RequestHead) (old new : Option (List ℕ)) (told : Option ℕ) (wants : Bool) (got : Got)
+pub gets-short : (h : RequestHead) (old new : Option (List ℕ)) (told : Option ℕ) (wants : Bool) (got : Got Request)
     → told_length (fields_of h) ≡ Ok told
     → wants ≡ wants_close h → TakesBody old new (body_length (fields_of h)) bodies.Short
     → GetsWith h told None wants got → GetsAfter h old new got

@@ -2,9 +2,10 @@
 use Rattle.std.proofs.Common.{append-nil, length-append, ◌≡◌, ◌++◌, ◌∷◌, [], List, ℕ, true, false, Some, None, refl, sym, ◌∙◌, subst}
 use Rattle.std.proofs.Common.{Bool, ◌&&◌, ◌+◌, ◌-◌, ◌≤◌, suc, cond, ap, arith, length, take, drop, take_all, ◌<◌, if◌then◌else◌}
 use Rattle.std.proofs.lemmas.List.{append_assoc}
-use Rattle.std.proofs.lemmas.List.{drop_all, take-append-drop, take-append-le}
+use Rattle.std.proofs.lemmas.List.{drop-append-le, drop_all, take-append-drop, take-append-le}
 use Rattle.std.proofs.lemmas.List.Folds.{list_all-append}
 use Rattle.std.proofs.Math.Seq.{take-append-add, drop-append-add, drop-append_seam}
+use Rattle.std.specs.Cmp.Lexicographic.{pointwise}
 use Rattle.std.specs.List.{list_all}
 use Rattle.std.specs.Prelude.{nat_eq, nat_le, nat_lt, ◌||◌}
 use Rattle.reg_refusals.specs.declared.refusal.Refusal.TheVariants as refusals
@@ -14,12 +15,41 @@ use Rattle.reg_messages.specs.Head.{ends_in_empty_line, cut_after, cut_head, fro
 use Rattle.reg_messages.specs.Head.{has_few_lines, head, no_head, over, is_skipped}
 use Rattle.reg_messages.specs.Head.{skipped_len, within_limit}
 
+pub and-false : (b : Bool) → (b && false) ≡ false
+and-false true = refl
+and-false false = refl
+
 -- one byte more
 pub HasNoEnd-more : (before bytes whole : List ℕ) (b : ℕ) → HasNoEnd before bytes → whole ≡ before ++ (bytes ++ b ∷ [])
     → ends_in_empty_line whole ≡ false → HasNoEnd before (bytes ++ b ∷ [])
 HasNoEnd-more before [] whole b none is last = (subst (λ w. ends_in_empty_line w ≡ false) is last, tt)
 HasNoEnd-more before (x ∷ bytes) whole b (unended, none) is last =
     (unended, HasNoEnd-more (before ++ x ∷ []) bytes whole b none (is ∙ sym (append_assoc before (x ∷ []) (bytes ++ b ∷ []))) last)
+
+-- a byte that is no LF ends no line
+kept-two : (ys : List ℕ) (b : ℕ) → nat_eq 10 b ≡ false → pointwise nat_eq (10 ∷ 10 ∷ []) (ys ++ b ∷ []) ≡ false
+kept-two [] b kept = rw kept refl
+kept-two (x ∷ []) b kept = rw kept (and-false (nat_eq 10 x))
+kept-two (x ∷ y ∷ []) b kept = rw (and-false (nat_eq 10 y)) (and-false (nat_eq 10 x))
+kept-two (x ∷ y ∷ z ∷ ys) b kept = rw (and-false (nat_eq 10 y)) (and-false (nat_eq 10 x))
+
+kept-three : (ys : List ℕ) (b : ℕ) → nat_eq 10 b ≡ false → pointwise nat_eq (10 ∷ 13 ∷ 10 ∷ []) (ys ++ b ∷ []) ≡ false
+kept-three [] b kept = rw kept refl
+kept-three (x ∷ []) b kept = rw (and-false (nat_eq 13 b)) (and-false (nat_eq 10 x))
+kept-three (x ∷ y ∷ ys) b kept = rw (and-tail ys b kept, and-false (nat_eq 13 y)) (and-false (nat_eq 10 x))
+  where
+    and-tail : (ys : List ℕ) (b : ℕ) → nat_eq 10 b ≡ false → pointwise nat_eq (10 ∷ []) (ys ++ b ∷ []) ≡ false
+    and-tail [] b kept = rw kept refl
+    and-tail (x ∷ []) b kept = and-false (nat_eq 10 x)
+    and-tail (x ∷ y ∷ ys) b kept = and-false (nat_eq 10 x)
+
+pub unended-by : (front : List ℕ) (b : ℕ) → nat_eq 10 b ≡ false → ends_in_empty_line (front ++ b ∷ []) ≡ false
+unended-by front b kept =
+    let text = front ++ b ∷ [] in
+    let size : length text ≡ length front + 1 = length-append front (b ∷ []) in
+    let two = drop-append-le (length text - 2) front (b ∷ []) (omega (arith, size)) in
+    let three = drop-append-le (length text - 3) front (b ∷ []) (omega (arith, size)) in
+    rw (two, three, kept-two (drop (length text - 2) front) b kept, kept-three (drop (length text - 3) front) b kept) refl
 
 -- no head is found
 pub cut_after-none : (before bytes : List ℕ) → HasNoEnd before bytes → cut_after before bytes ≡ None
@@ -33,10 +63,6 @@ cut_after-found before [] whole rest b none is ends =
     rw (sym is, ends) refl
 cut_after-found before (x ∷ bytes) whole rest b (unended, none) is ends =
     rw unended (cut_after-found (before ++ x ∷ []) bytes whole rest b none (is ∙ sym (append_assoc before (x ∷ []) (bytes ++ b ∷ []))) ends)
-
-pub and-false : (b : Bool) → (b && false) ≡ false
-and-false true = refl
-and-false false = refl
 
 -- one that isn't skipped stands after those that are
 pub not_all : (blank rest : List ℕ) (x : ℕ) → is_skipped x ≡ false → list_all is_skipped (blank ++ x ∷ rest) ≡ false

@@ -2,9 +2,10 @@ pub mod BodiesTaken
 pub mod Counts
 mod Examples
 pub mod Extents
+pub mod FrontsRead
 pub mod Fronts
 pub mod Gets
 pub mod Heads
-pub mod Messages
 pub mod Numerals
 pub mod Places
+pub mod ReadsLeft

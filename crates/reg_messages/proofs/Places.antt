@@ -3,13 +3,13 @@ use Rattle.std.proofs.Common.{◌≡◌, ◌∷◌, [], List, ℕ, false, refl, 
 use Rattle.std.specs.Prelude.{IsOk, IsUtf8, None, Ok, Option, Some, unwrap_or, ◌==◌}
 use Rattle.http_header.specs.Token as token
 use Rattle.httparse.specs.Grammar as grammar
-use Rattle.httparse.specs.Spans.{header_bytes, name_and_value}
+use Rattle.httparse.specs.Spans.{IsRequestAt, header_bytes, name_and_value, span_bytes}
 use Rattle.httparse.specs.declared.spans.HeaderSpan.{HeaderSpan}
+use Rattle.httparse.specs.declared.spans.RequestSpans.{RequestSpans}
 use Rattle.reg_messages.specs.Fields.{asks_to_close, body_length, told_length}
 use Rattle.reg_messages.specs.declared.field.HeaderField.{HeaderField}
 use Rattle.reg_messages.specs.Messages.{field_of, fields_of, request_with, wants_close}
-use Rattle.reg_messages.specs.Places.{HasTexts, IsHeadAt, field_at}
-use Rattle.reg_messages.specs.declared.parsing.Head.{Head}
+use Rattle.reg_messages.specs.Places.{field_at}
 use Rattle.reg_messages.specs.declared.request.Request.{Request}
 
 field_from : List ℕ × List ℕ → HeaderField
@@ -33,13 +33,14 @@ pub wants-field : (h : grammar.RequestHead) → (h.minor == 0) ≡ false → ask
 wants-field h later = rw later refl
 
 -- the two crates have one meaning of a token
-is-token : (bytes : List ℕ) → grammar.IsToken bytes → token.IsToken bytes
+pub is-token : (bytes : List ℕ) → grammar.IsToken bytes → token.IsToken bytes
 unfolding grammar.is_token_byte token.is_token_byte
 is-token bytes is = is
 
 -- the method of a head is a token, and its target a text
-pub has-texts : (bytes : List ℕ) (found : Head) (h : grammar.RequestHead) → IsHeadAt bytes found h → HasTexts bytes found
-has-texts bytes found h at =
+pub has-texts : (bytes : List ℕ) (fields : List HeaderSpan) (spans : RequestSpans) (h : grammar.RequestHead) → IsRequestAt bytes fields spans h
+    → token.IsToken (span_bytes bytes spans.method) × IsUtf8 (span_bytes bytes spans.path)
+has-texts bytes fields spans h at =
     (subst token.IsToken (sym at.method) (is-token h.method at.reads.0.method), subst IsUtf8 (sym at.path) at.reads.0.target_text)
 
 -- a length that isn't refused is the body's

@@ -1,10 +1,13 @@
 pub mod BodyReading
 pub mod Extent
 pub mod Fields
+pub mod FrontRead
 pub mod Head
 pub mod HeadReading
 pub mod Messages
+pub mod Parts
 pub mod Places
 pub mod Reading
 pub mod ReadingSteps
 pub mod Taking
+pub mod Types

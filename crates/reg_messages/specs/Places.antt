@@ -16,11 +16,11 @@ fields_at bytes spans = map (field_at bytes) spans
 
 -- the places of the parts of a head, in its bytes
 abbrev pub IsHeadAt : List ℕ → Head → RequestHead → Type 0
-IsHeadAt bytes found h = IsRequestAt bytes found.fields found.spans h
+IsHeadAt bytes found h = IsRequestAt bytes found.fields.now found.spans h
 
 -- the places are in the bytes
 abbrev pub IsHeadWithin : List ℕ → Head → Type 0
-IsHeadWithin bytes found = IsRequestWithin bytes found.fields found.spans
+IsHeadWithin bytes found = IsRequestWithin bytes found.fields.now found.spans
 
 -- at the method's place stands a token, at the target's a text
 abbrev pub HasTexts : List ℕ → Head → Type 0

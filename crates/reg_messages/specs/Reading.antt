@@ -7,8 +7,10 @@ use Rattle.reg_refusals.specs.declared.refusal.Refusal.TheVariants as refusals
 use Rattle.reg_messages.specs.Fields.{body_length, told_length}
 use Rattle.reg_messages.specs.Head.{Front, front_of, head, no_head, over, IsHead, IsNoHead}
 use Rattle.reg_messages.specs.Messages.{after_body, fields_of, request_of, wants_close}
+use Rattle.reg_messages.specs.Parts.{Parts, parts_of}
 use Rattle.reg_messages.specs.declared.reading.Got.{Got}
 use Rattle.reg_messages.specs.declared.reading.Got.TheVariants as gots
+use Rattle.reg_messages.specs.declared.request.Request.{Request}
 
 -- what stands at the front is short of a whole message: the end of its head or of its body isn't there yet
 abbrev pub IsShort : Front → Type 0
@@ -32,12 +34,20 @@ abbrev pub HasHead : List ℕ → Option (List ℕ) → List ℕ → RequestHead
 HasHead text left bytes h after = (front_of text ≡ head bytes after) × IsHead bytes h × IsOk (told_length (fields_of h))
     × (left ≡ Some (after_body h after))
 
--- what was read at the front of a text
-abbrev pub GetsFrom : List ℕ → Option (List ℕ) → Got → Type 0
-GetsFrom text left gots.Over = front_of text ≡ over
-GetsFrom text left (gots.Refused refusal) = IsRefusedAt text refusal
-GetsFrom text left (gots.Message request told wants) =
+-- what was read at the front of a text, where that is so of the request and of what was read of it
+abbrev pub GetsBy : {Q : Type 0} → (Q → Request → Type 0) → List ℕ → Option (List ℕ) → Got Q → Type 0
+GetsBy is text left gots.Over = front_of text ≡ over
+GetsBy is text left (gots.Refused refusal) = IsRefusedAt text refusal
+GetsBy is text left (gots.Message request told wants) =
     (bytes : List ℕ) × (h : RequestHead) × (after : List ℕ) × HasHead text left bytes h after
-    × (request ≡ request_of h after) × (told_length (fields_of h) ≡ Ok told) × (wants ≡ wants_close h)
-GetsFrom text left (gots.NoMemory wants) =
+    × is request (request_of h after) × (told_length (fields_of h) ≡ Ok told) × (wants ≡ wants_close h)
+GetsBy is text left (gots.NoMemory wants) =
     (bytes : List ℕ) × (h : RequestHead) × (after : List ℕ) × HasHead text left bytes h after × (wants ≡ wants_close h)
+
+-- what was read at the front of a text
+abbrev pub GetsFrom : List ℕ → Option (List ℕ) → Got Request → Type 0
+GetsFrom text left got = GetsBy (λ request read. request ≡ read) text left got
+
+-- the same, where the parts of the request are lent
+abbrev pub GetsLent : {Q : Type 0} → (Q → Parts) → List ℕ → Option (List ℕ) → Got Q → Type 0
+GetsLent parts text left got = GetsBy (λ request read. parts request ≡ parts_of read) text left got

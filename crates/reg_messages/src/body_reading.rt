@@ -12,17 +12,17 @@ use reg_records::Device;
 use std::alloc::Global;
 use std::io::Read;
 
-/// What stood where a body was stated.
+/// The body that was taken.
 #[derive(Debug, Drop)]
 pub(crate) enum Body {
     Whole(Listed<u8>),
-    /// The input ended in it.
+    /// The input ended before its end.
     Short,
-    /// Memory was refused, and its bytes are dropped; the input ended in it or not.
+    /// Memory was refused, so its bytes were dropped. The input may have ended before its end.
     Dropped,
 }
 
-/// Takes the body, of which so many bytes are stated.
+/// Takes a body of `len` bytes.
 #[tactic(auto, using(crate::proofs::Counts::counts_then, reg_records::proofs::Ends::ends_then))]
 pub(crate) fn take_body<R: Read>(
     alloc: Global,
@@ -43,7 +43,7 @@ pub(crate) fn take_body<R: Read>(
     }
 }
 
-/// Takes so many bytes into a vector that is empty.
+/// Takes `len` bytes into an empty vector.
 #[tactic(auto, using(crate::proofs::Counts::counts_then, reg_records::proofs::Ends::ends_then))]
 fn fill_body<R: Read>(reader: &mut Device<R>, room: Vec<u8>, len: usize) -> Result<Body, ReadFault>
     requires begun { reads_of reader.old ≤ REQUEST_READS }
@@ -74,7 +74,7 @@ fn fill_body<R: Read>(reader: &mut Device<R>, room: Vec<u8>, len: usize) -> Resu
     Ok(Body::Whole(Listed::from(bytes)))
 }
 
-/// Takes the rest of a body, of so many bytes, and drops it.
+/// Takes the last `left` bytes of a body and drops them.
 #[tactic(auto, using(crate::proofs::Counts::counts_then, reg_records::proofs::Ends::ends_then))]
 fn drop_body<R: Read>(reader: &mut Device<R>, left: usize) -> Result<Body, ReadFault>
     requires begun { reads_of reader.old ≤ REQUEST_READS }
@@ -93,7 +93,7 @@ fn drop_body<R: Read>(reader: &mut Device<R>, left: usize) -> Result<Body, ReadF
     }
 }
 
-/// Takes so many bytes, and says whether there were as many.
+/// Takes `len` bytes, and returns whether there were as many.
 #[tactic(auto, using(crate::proofs::Counts::counts_then, reg_records::proofs::Ends::ends_then))]
 fn skip_bytes<R: Read>(reader: &mut Device<R>, len: usize) -> Result<bool, ReadFault>
     requires begun { reads_of reader.old ≤ REQUEST_READS }

@@ -9,9 +9,10 @@ use crate::limits::BODY_LIMIT;
 use reg_records::has_only_digits;
 use reg_refusals::Refusal;
 
-/// The length in bytes of the body that the fields state, where they state one (RFC 9112, section 6).
-/// Refused with `LengthRequired` where a transfer coding is named, with `BadRequest` where several
-/// lengths are stated or one that is not a number, and with `PayloadTooLarge` past the limit.
+/// Returns the length in bytes of the body that the fields state; `None` if they state none (RFC
+/// 9112, section 6). Refused with `LengthRequired` if there is a transfer coding, with `BadRequest`
+/// if there are several lengths or one that isn't 1 to 19 digits, and with `PayloadTooLarge` above
+/// [`BODY_LIMIT`].
 pub fn told_length<'f, F: Fields<'f>>(fields: F) -> Result<Option<u64>, Refusal>
     ensures { result ≡ told_length (F.fields fields) }
 {
@@ -33,7 +34,8 @@ fn only_length<'f, F: Fields<'f>>(fields: F) -> Result<Option<u64>, Refusal>
     }
 }
 
-/// The value of the first field of that name, and the fields after it.
+/// Finds the first field of that name, and returns its value and the fields after it. Names are
+/// compared without case (RFC 9110, section 5.1).
 pub fn find_value<'f, F: Fields<'f>>(fields: F, name: &str) -> Option<(&'f [u8], F)>
     ensures values { values_of name.now (F.fields fields) ≡ values_found F.fields name.now result }
     ensures fewer { IfSome result (λ found. length (F.fields found.1) < length (F.fields fields)) }
@@ -48,8 +50,8 @@ pub fn find_value<'f, F: Fields<'f>>(fields: F, name: &str) -> Option<(&'f [u8],
     None
 }
 
-/// The length that the only value of Content-Length tells; refused where it is not a number, or past the
-/// limit.
+/// Returns the length that the only Content-Length field states; refused if it isn't a number or is
+/// above the limit.
 fn length_in(value: &[u8]) -> Result<Option<u64>, Refusal>
     ensures { result ≡ length_of (value.now ∷ []) }
 {
@@ -69,7 +71,7 @@ fn is_length(value: &[u8]) -> bool
     !value.is_empty() && value.len() <= 19 && has_only_digits(value)
 }
 
-/// Whether some Connection field asks for the connection to be closed (RFC 9112, section 9.6).
+/// Returns whether a Connection field has the option `close` (RFC 9112, section 9.6).
 pub fn asks_to_close<'f, F: Fields<'f>>(fields: F) -> bool
     ensures { result ≡ asks_to_close (F.fields fields) }
 {
@@ -83,7 +85,7 @@ pub fn asks_to_close<'f, F: Fields<'f>>(fields: F) -> bool
     false
 }
 
-/// Whether the list, parted at commas, holds `close`.
+/// Returns whether the comma-separated list has the item `close`.
 fn holds_close(value: &[u8]) -> bool
     ensures { result ≡ holds_close value.now }
 {
@@ -96,7 +98,7 @@ fn is_close(item: &[u8]) -> bool
     trim_ows(item).eq_ignore_ascii_case(b"close")
 }
 
-/// The bytes without the white space at both ends.
+/// Returns the bytes without the spaces and tabs at both ends.
 #[tactic(auto, unfolding(httparse::specs::Grammar::trim_ows))]
 pub fn trim_ows(bytes: &[u8]) -> &[u8]
     ensures { result.now ≡ trim_ows bytes.now }
@@ -111,7 +113,7 @@ pub fn trim_ows(bytes: &[u8]) -> &[u8]
     left
 }
 
-/// The bytes from the first that is no white space.
+/// Returns the bytes without the spaces and tabs at their front.
 fn skip_ows(bytes: &[u8]) -> &[u8]
     ensures { result.now ≡ skip_ows bytes.now }
 {

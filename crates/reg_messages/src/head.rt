@@ -12,38 +12,39 @@ use reg_records::Device;
 use reg_refusals::Refusal;
 use std::io::Read;
 
-/// What stood at the front of the requests.
+/// The CR and LF bytes before a request.
 #[derive(Clone, Copy)]
 pub(crate) struct Blank {
     /// How many CR and LF bytes.
     pub(crate) count: usize,
-    /// The byte after them; none at the end, or where they are too many.
+    /// The byte after them; `None` at the end of the input, or if they are too many.
     pub(crate) next: Option<u8>,
 }
 
 /// How the bytes of a head end.
 #[derive(Clone, Copy)]
 pub(crate) enum HeadEnd {
-    /// At an empty line, after so many bytes.
+    /// At an empty line, after this number of bytes.
     Found(usize),
     /// At the end of the input.
     Ended,
-    /// Nowhere within the limit.
+    /// Not within the limit.
     Full,
 }
 
-/// What stood before the body of the next request.
+/// What was taken before the body of the next request.
 #[derive(Debug, Drop)]
 pub(crate) enum Taken {
     /// No request.
     Over,
-    /// No head, and why.
+    /// No valid head, and why.
     NoHead(Refusal),
-    /// A head of so many bytes.
+    /// A head of this number of bytes.
     Head(usize),
 }
 
-/// Takes the CR and LF bytes at the front, up to one more than a head may have, and the byte after them.
+/// Takes the CR and LF bytes at the front, at most one more than a head may have, and the byte
+/// after them.
 #[tactic(auto, using(crate::proofs::Counts::counts_then, reg_records::proofs::Ends::ends_then))]
 pub(crate) fn take_blank<R: Read>(reader: &mut Device<R>) -> Result<Blank, ReadFault>
     requires begun { reads_of reader.old ≤ REQUEST_READS }
@@ -78,7 +79,7 @@ pub(crate) fn is_skipped(b: u8) -> bool
     b == b'\r' || b == b'\n'
 }
 
-/// Takes bytes after the first of the buffer, up to an empty line.
+/// Takes bytes up to an empty line. The first byte of the buffer was taken before.
 #[tactic(auto, using(crate::proofs::Counts::counts_then, reg_records::proofs::Ends::ends_then))]
 pub(crate) fn take_head<R: Read>(
     reader: &mut Device<R>,
@@ -117,7 +118,7 @@ pub(crate) fn ends_in_empty_line(bytes: &[u8]) -> bool
     bytes.ends_with(b"\n\n") || bytes.ends_with(b"\n\r\n")
 }
 
-/// Takes what stands before the body of the next request. The bytes of its head go to the front of the
+/// Takes all bytes before the body of the next request. Those of its head go to the front of the
 /// buffer.
 #[tactic(auto, using(crate::proofs::Counts::counts_then, reg_records::proofs::Ends::ends_then))]
 pub(crate) fn take_front<R: Read>(
@@ -139,7 +140,7 @@ pub(crate) fn take_front<R: Read>(
     }
 }
 
-/// Takes the rest of what stands before the body, once the CR and LF bytes at the front are taken.
+/// Takes the rest of the bytes before the body, after the CR and LF bytes at the front.
 #[tactic(auto, using(crate::proofs::Counts::counts_then, reg_records::proofs::Ends::ends_then))]
 fn take_after_blank<R: Read>(
     reader: &mut Device<R>,
@@ -179,7 +180,7 @@ fn take_after_blank<R: Read>(
     }
 }
 
-/// The bytes are a head's, if they are few lines.
+/// Returns the head that the bytes are, or refuses it if it has too many lines.
 fn taken_head(bytes: &[u8]) -> Taken
     ensures { result ≡ taken_head bytes.now }
 {

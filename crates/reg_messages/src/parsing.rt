@@ -1,37 +1,37 @@
 // The head of a message, by the places of its parts (RFC 9112).
-ghost use Rattle.std.specs.Prelude.{◌≡◌, IfOk, IfSome, IsUtf8, MatchOption};
+ghost use Rattle.std.specs.Prelude.{◌≡◌, ◌≤◌, length, IfNone, IfOk, IfSome, IsUtf8};
 ghost use Rattle.http_header.specs.Token.{IsToken};
 ghost use Rattle.httparse.specs.Grammar.{RequestHead};
+ghost use Rattle.httparse.specs.Spans.{IsRequestAt, IsRequestWithin};
 ghost use Rattle.reg_messages.specs.Head.{IsHead, IsNoHead};
-ghost use Rattle.reg_messages.specs.Places.{IsHeadAt, IsHeadWithin};
+ghost use Rattle.reg_messages.specs.declared.limits.TheConstants.{HEAD_FIELDS};
 
-use crate::limits::HEAD_FIELDS;
 use base_text::Text;
 use http::Method;
 use http::method::MethodError;
 use httparse::Status;
-use httparse::spans::{EMPTY_HEADER_SPAN, HeaderSpan, RequestSpans, parse_request};
+use httparse::spans::{HeaderSpan, RequestSpans, parse_request};
 use std::alloc::{AllocError, Global};
 
-/// Where the parts of a head are in its bytes.
-#[derive(Clone, Copy)]
-pub(crate) struct Head {
+/// The places of the parts of a head in its bytes.
+#[derive(Drop)]
+pub(crate) struct Head<'s> {
     pub(crate) spans: RequestSpans,
-    pub(crate) fields: [HeaderSpan; HEAD_FIELDS],
+    pub(crate) fields: &'s [HeaderSpan],
 }
 
-/// The head that the bytes are, if they are one.
-pub(crate) fn head_in(bytes: &[u8]) -> Option<Head>
-    ensures head { MatchOption result (IsNoHead bytes.now)
-        (λ found. (h : RequestHead) × IsHead bytes.now h × IsHeadAt bytes.now found h) }
-    ensures only { IfSome result (λ found. (h : RequestHead) → IsHead bytes.now h → IsHeadAt bytes.now found h) }
-    ensures within { IfSome result (λ found. IsHeadWithin bytes.now found) }
+/// Parses a head and returns the places of its parts; those of its fields go to `fields`. `None` if
+/// the bytes are no head, or it has more fields than there is room for.
+pub(crate) fn spans_in(bytes: &[u8], fields: &mut [HeaderSpan]) -> Option<RequestSpans>
+    requires room { length fields.old ≤ HEAD_FIELDS }
+    ensures head { IfSome result (λ spans. (h : RequestHead) × IsHead bytes.now h × IsRequestAt bytes.now fields.new spans h) }
+    ensures within { IfSome result (λ spans. IsRequestWithin bytes.now fields.new spans) }
+    ensures none { length fields.old ≡ HEAD_FIELDS → IfNone result (IsNoHead bytes.now) }
 {
-    let mut fields = [EMPTY_HEADER_SPAN; HEAD_FIELDS];
-    match parse_request(bytes, &mut fields) {
+    match parse_request(bytes, fields) {
         Ok(Status::Complete(spans)) => {
             if spans.len == bytes.len() {
-                Some(Head { spans, fields })
+                Some(spans)
             } else {
                 None
             }
@@ -40,7 +40,7 @@ pub(crate) fn head_in(bytes: &[u8]) -> Option<Head>
     }
 }
 
-/// The method of a head, whose bytes are a token: the only error is out of memory.
+/// Copies the method of a head. The only error is out of memory.
 pub(crate) fn method_in(alloc: Global, bytes: &[u8]) -> Result<Method, AllocError>
     requires token { IsToken bytes.now }
     ensures { IfOk result (λ method. method ≡ bytes.now) }
@@ -52,7 +52,7 @@ pub(crate) fn method_in(alloc: Global, bytes: &[u8]) -> Result<Method, AllocErro
     }
 }
 
-/// The target of a head, whose bytes are UTF-8: the only error is out of memory.
+/// Copies the target of a head. The only error is out of memory.
 pub(crate) fn target_in(alloc: Global, bytes: &[u8]) -> Result<Text, AllocError>
     requires text { IsUtf8 bytes.now }
     ensures { IfOk result (λ target. target ≡ bytes.now) }

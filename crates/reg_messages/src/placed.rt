@@ -8,7 +8,7 @@ use base_text::Listed;
 use httparse::spans::HeaderSpan;
 use std::alloc::{AllocError, Global};
 
-/// The fields of a head at the places that the parser gives.
+/// The fields of a head, by the places that the parser found.
 #[derive(Clone, Copy)]
 pub(crate) struct PlacedFields<'h> {
     bytes: &'h [u8],
@@ -17,7 +17,7 @@ pub(crate) struct PlacedFields<'h> {
 }
 
 impl<'h> PlacedFields<'h> {
-    /// The fields that stand at these places in the bytes.
+    /// Makes the fields at these places in the bytes.
     pub(crate) fn of(bytes: &'h [u8], spans: &'h [HeaderSpan]) -> PlacedFields<'h>
         requires within { All (IsHeaderWithin (length bytes.now)) spans.now }
         ensures bytes { result.bytes.now ≡ bytes.now }
@@ -45,7 +45,7 @@ impl<'h> Fields<'h> for PlacedFields<'h> {
     }
 }
 
-/// Copies of the fields.
+/// Copies the fields. The only error is out of memory.
 pub(crate) fn copied<'f, F: Fields<'f>>(
     alloc: Global,
     fields: F,

@@ -1,11 +1,10 @@
 // Reading a message: its head, and the body that its fields state.
-ghost use Rattle.std.specs.Prelude.{◌≡◌, ◌<◌, ◌≤◌, ℕ, List, Option, IfOk, IfSome, OnErr, OnOk, Ok};
+ghost use Rattle.std.specs.Prelude.{◌≡◌, ◌≤◌, ℕ, List, Option, IfOk, IfSome, OnErr, OnOk, Ok};
 ghost use Rattle.std.specs.Io.KnownBytes.{Consumes};
 ghost use Rattle.httparse.specs.Grammar.{RequestHead};
 ghost use Rattle.reg_records.specs.Device.{KeepsEnd, bytes_in, faults_of, reads_of};
 ghost use Rattle.reg_messages.specs.BodyReading.{LosesBody, TakesBody};
 ghost use Rattle.reg_messages.specs.Fields.{body_length, told_length};
-ghost use Rattle.reg_messages.specs.Head.{IsHead};
 ghost use Rattle.reg_messages.specs.HeadReading.{IsTakenAs};
 ghost use Rattle.reg_messages.specs.Messages.{fields_of, request_with, wants_close};
 ghost use Rattle.reg_messages.specs.Places.{HasTexts, IsHeadAt, IsHeadWithin, fields_at};
@@ -16,28 +15,30 @@ ghost use Rattle.reg_messages.specs.Taking.{CountsReads, LosesReader};
 use crate::body_reading::{Body, take_body};
 use crate::fields::{asks_to_close, told_length};
 use crate::head::{Taken, take_front};
-use crate::limits::{HEAD_LIMIT, REQUEST_READS};
-use crate::parsing::{Head, head_in, method_in, target_in};
+use crate::limits::{HEAD_FIELDS, HEAD_LIMIT, REQUEST_READS};
+use crate::parsing::{Head, method_in, spans_in, target_in};
 use crate::placed::{PlacedFields, copied};
 use crate::request::Request;
 use crate::taking::ReadFault;
 use base_text::Listed;
+use httparse::spans::EMPTY_HEADER_SPAN;
 use reg_records::Device;
 use reg_refusals::Refusal;
 use std::alloc::{AllocError, Global};
 use std::io::Read;
 
-/// What was read at the front of the input.
+/// What is at the front of a text: a message (a request, or the lent parts of one), or the reason
+/// why there is none.
 #[derive(Debug, Drop)]
-pub enum Got {
+pub enum Got<Q> {
     /// No message is left.
     Over,
-    /// What can't be followed by another message, and why.
+    /// Something that no message can follow, and why.
     Refused(Refusal),
     /// The message of a request.
     Message {
-        request: Request,
-        /// The length of its body, where its fields state one.
+        request: Q,
+        /// The length of the body in bytes; `None` if the fields state none.
         told: Option<u64>,
         /// Whether the client wants the connection closed after it.
         wants_close: bool,
@@ -48,10 +49,14 @@ pub enum Got {
     },
 }
 
-/// Reads the next message, and no byte more. Where memory for it is refused, its bytes are taken all
-/// the same, so that the next one is found.
+/// Reads the next message, and no byte past it. If memory is refused, its bytes are taken all the
+/// same, so that the next message is found. Fails if the reader fails, or after [`REQUEST_READS`]
+/// reads.
 #[tactic(auto, using(crate::proofs::Counts::counts_then, reg_records::proofs::Ends::ends_then))]
-pub fn read_message<R: Read>(alloc: Global, reader: &mut Device<R>) -> Result<Got, ReadFault>
+pub fn read_message<R: Read>(
+    alloc: Global,
+    reader: &mut Device<R>,
+) -> Result<Got<Request>, ReadFault>
     requires begun { reads_of reader.old ≤ REQUEST_READS }
     ensures got { IfOk result (λ got. IfSome (bytes_in R.remaining reader.old) (λ text. GetsFrom text (bytes_in R.remaining reader.new) got)) }
     ensures faults { OnOk result (faults_of reader.new ≡ faults_of reader.old) }
@@ -69,13 +74,13 @@ pub fn read_message<R: Read>(alloc: Global, reader: &mut Device<R>) -> Result<Go
     }
 }
 
-/// Reads the rest of the message whose head these bytes are.
+/// Reads the rest of the message after its head.
 #[tactic(auto, using(crate::proofs::Counts::counts_then, reg_records::proofs::Ends::ends_then))]
 fn read_after_head<R: Read>(
     alloc: Global,
     reader: &mut Device<R>,
     bytes: &[u8],
-) -> Result<Got, ReadFault>
+) -> Result<Got<Request>, ReadFault>
     requires begun { reads_of reader.old ≤ REQUEST_READS }
     ensures got { (start : Option (List ℕ)) (taken : List ℕ) → Consumes start (bytes_in R.remaining reader.old) taken → IsTakenAs taken bytes.now
         → IfOk result (λ got. IfSome start (λ text. GetsFrom text (bytes_in R.remaining reader.new) got)) }
@@ -86,20 +91,27 @@ fn read_after_head<R: Read>(
     ensures short { (start : Option (List ℕ)) (taken : List ℕ) → Consumes start (bytes_in R.remaining reader.old) taken → IsTakenAs taken bytes.now
         → OnErr result (IfSome start (λ text. TakesShort text (bytes_in R.remaining reader.new))) }
 {
-    match head_in(bytes) {
-        Some(head) => read_body(alloc, reader, bytes, &head),
+    let mut fields = [EMPTY_HEADER_SPAN; HEAD_FIELDS];
+    match spans_in(bytes, &mut fields) {
+        Some(spans) => {
+            let head = Head {
+                spans,
+                fields: &fields,
+            };
+            read_body(alloc, reader, bytes, &head)
+        }
         None => Ok(Got::Refused(Refusal::BadRequest)),
     }
 }
 
-/// Reads the body that the fields of the head tell.
+/// Reads the body whose length the fields of the head state.
 #[tactic(auto, using(crate::proofs::Counts::counts_then, reg_records::proofs::Ends::ends_then))]
 fn read_body<R: Read>(
     alloc: Global,
     reader: &mut Device<R>,
     bytes: &[u8],
-    head: &Head,
-) -> Result<Got, ReadFault>
+    head: &Head<'_>,
+) -> Result<Got<Request>, ReadFault>
     requires begun { reads_of reader.old ≤ REQUEST_READS }
     requires within { IsHeadWithin bytes.now head.now }
     requires texts { HasTexts bytes.now head.now }
@@ -124,54 +136,32 @@ fn read_body<R: Read>(
     }
 }
 
-/// How many bytes the body has that a head tells; none where the bytes are no head, and where what its
-/// fields state is refused.
-pub fn body_len(bytes: &[u8]) -> usize
-    ensures told { (h : RequestHead) → IsHead bytes.now h → result ≡ body_length (fields_of h) }
-    ensures some { 0 < result → (h : RequestHead) × IsHead bytes.now h × (result ≡ body_length (fields_of h)) }
-{
-    match head_in(bytes) {
-        Some(head) => told_in(bytes, &head),
-        None => 0,
-    }
-}
-
-/// How many bytes the body has that the fields of the head tell.
-fn told_in(bytes: &[u8], head: &Head) -> usize
-    requires within { IsHeadWithin bytes.now head.now }
-    ensures { (h : RequestHead) → IsHeadAt bytes.now head.now h → result ≡ body_length (fields_of h) }
-{
-    match told_length(fields_in(bytes, head)) {
-        Ok(Some(told)) => told as usize,
-        Ok(None) | Err(_) => 0,
-    }
-}
-
-/// The fields of a head, where they stand.
-pub(crate) fn fields_in<'h>(bytes: &'h [u8], head: &'h Head) -> PlacedFields<'h>
+/// Returns the fields of a head, not copied.
+pub(crate) fn fields_in<'h>(bytes: &'h [u8], head: &'h Head<'_>) -> PlacedFields<'h>
     requires within { IsHeadWithin bytes.now head.now }
     ensures { (h : RequestHead) → IsHeadAt bytes.now head.now h → fields_at result.bytes.now result.spans.now ≡ fields_of h }
 {
     PlacedFields::of(bytes, &head.fields[..head.spans.headers])
 }
 
-/// Whether the client wants the connection closed: it speaks HTTP/1.0, or a field says so.
-pub(crate) fn wants_close(bytes: &[u8], head: &Head) -> bool
+/// Returns whether the client wants the connection closed: it uses HTTP/1.0, or a Connection field
+/// has `close`.
+pub(crate) fn wants_close(bytes: &[u8], head: &Head<'_>) -> bool
     requires within { IsHeadWithin bytes.now head.now }
     ensures { (h : RequestHead) → IsHeadAt bytes.now head.now h → result ≡ wants_close h }
 {
     head.spans.version == 0 || asks_to_close(fields_in(bytes, head))
 }
 
-/// The message of a head that states that length, and of what stood where its body was stated.
-pub(crate) fn got_of(
+/// Returns the message of a head with the body that was taken.
+fn got_of(
     alloc: Global,
     bytes: &[u8],
-    head: &Head,
+    head: &Head<'_>,
     told: Option<u64>,
     body: Body,
     wants: bool,
-) -> Got
+) -> Got<Request>
     requires within { IsHeadWithin bytes.now head.now }
     requires texts { HasTexts bytes.now head.now }
     ensures { (h : RequestHead) (old new : Option (List ℕ)) → IsHeadAt bytes.now head.now h
@@ -185,15 +175,15 @@ pub(crate) fn got_of(
     }
 }
 
-/// The message of a head and a body.
+/// Returns the message of a head and a body; `NoMemory` if memory is refused.
 fn got_with(
     alloc: Global,
     bytes: &[u8],
-    head: &Head,
+    head: &Head<'_>,
     told: Option<u64>,
     body: Option<Listed<u8>>,
     wants: bool,
-) -> Got
+) -> Got<Request>
     requires within { IsHeadWithin bytes.now head.now }
     requires texts { HasTexts bytes.now head.now }
     ensures { (h : RequestHead) → IsHeadAt bytes.now head.now h → GetsWith h told body wants result }
@@ -208,11 +198,11 @@ fn got_with(
     }
 }
 
-/// The request of a head and a body; the only error is out of memory.
+/// Copies the request of a head, with its body. The only error is out of memory.
 fn request_in(
     alloc: Global,
     bytes: &[u8],
-    head: &Head,
+    head: &Head<'_>,
     body: Option<Listed<u8>>,
 ) -> Result<Request, AllocError>
     requires within { IsHeadWithin bytes.now head.now }

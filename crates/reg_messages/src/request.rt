@@ -3,13 +3,13 @@ use crate::field::HeaderField;
 use base_text::{Listed, Text};
 use http::Method;
 
-/// A request (RFC 9112) whose head could be read.
+/// A request (RFC 9112) with a valid head.
 #[derive(Debug, Drop)]
 pub struct Request {
     pub method: Method,
-    /// As it was sent, with its escapes.
+    /// The target as it was sent, with its escapes.
     pub target: Text,
     pub fields: Listed<HeaderField>,
-    /// `None` where the input ended in it.
+    /// The body; `None` if the input ended before its end.
     pub body: Option<Listed<u8>>,
 }

@@ -8,12 +8,12 @@ use crate::limits::REQUEST_READS;
 use reg_records::Device;
 use std::io::{ErrorKind, Read};
 
-/// The reader failed, or was read as often as may be for one request.
+/// A lost reader: it failed, or was read as often as is allowed for one request.
 #[derive(Clone, Copy, Debug)]
 pub struct ReadFault;
 
-/// Takes the bytes of one read into the front of the buffer, and says how many; none at the end of the
-/// input. An interrupted read is tried again.
+/// Reads once into the front of the buffer, and returns how many bytes; 0 at the end of the input.
+/// An interrupted read is tried again.
 #[tactic(auto, using(crate::proofs::Counts::counts_then, reg_records::proofs::Ends::ends_then, reg_records::proofs::Ends::end_kept, reg_records::proofs::Ends::end_read))]
 pub(crate) fn take_some<R: Read>(
     reader: &mut Device<R>,
@@ -42,7 +42,7 @@ pub(crate) fn take_some<R: Read>(
     Err(ReadFault)
 }
 
-/// Takes one byte; none at the end of the input.
+/// Takes one byte; `None` at the end of the input.
 #[tactic(auto, using(crate::proofs::Counts::counts_then, reg_records::proofs::Ends::ends_then))]
 pub(crate) fn take_byte<R: Read>(reader: &mut Device<R>) -> Result<Option<u8>, ReadFault>
     requires begun { reads_of reader.old ≤ REQUEST_READS }

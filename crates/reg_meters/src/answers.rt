@@ -1,9 +1,9 @@
-// Answers, by where their requests went and by their statuses.
+// Counts of answers, by path, method and status.
 use crate::numbers::Counter;
 use reg_routes::{Action, Endpoint, Route};
 
-/// The statuses that are counted apart, each with its text: those that the registry gives (RFC 9110, section 15). The last place is for any
-/// other one.
+/// The statuses that are counted apart, each with its text (RFC 9110, section 15). The last place
+/// is for all others.
 pub static STATUSES: [(u16, &str); 13] = [
     (200, "200"),
     (400, "400"),
@@ -20,10 +20,10 @@ pub static STATUSES: [(u16, &str); 13] = [
     (0, "other"),
 ];
 
-/// That place.
+/// The place of all other statuses.
 const OTHER: usize = 12;
 
-/// How many answers had which status.
+/// How many answers had each status.
 #[derive(Drop)]
 pub struct StatusMeter {
     /// In the order of [`STATUSES`].
@@ -31,7 +31,7 @@ pub struct StatusMeter {
 }
 
 impl StatusMeter {
-    /// There was none.
+    /// Makes a meter that has counted nothing.
     pub const fn new() -> StatusMeter {
         StatusMeter {
             counts: [
@@ -52,7 +52,7 @@ impl StatusMeter {
         }
     }
 
-    /// One more had that status.
+    /// Counts an answer with that status.
     pub(crate) fn count(&self, status: u16) {
         let place = STATUSES
             .iter()
@@ -61,20 +61,20 @@ impl StatusMeter {
         self.counts[place].add(1);
     }
 
-    /// How many had each, in the order of [`STATUSES`].
+    /// Returns the counts in the order of [`STATUSES`].
     pub fn counts(&self) -> &[Counter] {
         &self.counts
     }
 }
 
-/// The answers to the requests of a path, by their methods.
+/// The answers to the requests of a path, by method.
 #[derive(Drop)]
 struct RouteMeter {
     get: StatusMeter,
     post: StatusMeter,
     put: StatusMeter,
     delete: StatusMeter,
-    /// Those to methods that the path doesn't offer.
+    /// Answers to methods that the path doesn't offer.
     other: StatusMeter,
 }
 
@@ -107,7 +107,7 @@ impl RouteMeter {
     }
 }
 
-/// All answers.
+/// The answers to all requests, by path, method and status.
 #[derive(Drop)]
 pub struct AnswerMeters {
     schema_by_id: RouteMeter,
@@ -123,12 +123,12 @@ pub struct AnswerMeters {
     subject_level: RouteMeter,
     mode: RouteMeter,
     subject_mode: RouteMeter,
-    /// Those to requests that went to no path.
+    /// Answers to requests that named no path of the registry.
     nowhere: StatusMeter,
 }
 
 impl AnswerMeters {
-    /// There was none.
+    /// Makes meters that have counted nothing.
     pub const fn new() -> AnswerMeters {
         AnswerMeters {
             schema_by_id: RouteMeter::new(),
@@ -148,7 +148,7 @@ impl AnswerMeters {
         }
     }
 
-    /// Those to requests that went there.
+    /// Returns the meter of the requests with that endpoint.
     pub fn at(&self, endpoint: Endpoint) -> &StatusMeter {
         match endpoint.route {
             Some(route) => self.on(route).of_action(endpoint.action),

@@ -4,19 +4,19 @@ use crate::numbers::Counter;
 /// Why a connection was closed.
 #[derive(Clone, Copy, Debug, PartialEq, Eq)]
 pub enum Ending {
-    /// By its client, or behind an answer that closes it.
+    /// Its client closed it, or it was closed after an answer that says so.
     Done,
     /// It took too long.
     Late,
-    /// It made room for another one.
+    /// It was closed to make room for another one.
     Room,
-    /// All held too much, and it most.
+    /// All connections held too many bytes, and it held most.
     Memory,
-    /// The system refused what it needs.
+    /// The system refused something that it needs.
     Failed,
 }
 
-/// Connections that came and went at a node since they were last counted.
+/// Connections of a node that were accepted and closed since the last count.
 #[derive(Clone, Copy, Debug, PartialEq, Eq)]
 pub struct ConnectionTally {
     accepted: u64,
@@ -28,7 +28,7 @@ pub struct ConnectionTally {
 }
 
 impl ConnectionTally {
-    /// None did.
+    /// Makes an empty tally.
     pub const fn new() -> ConnectionTally {
         ConnectionTally {
             accepted: 0,
@@ -40,12 +40,12 @@ impl ConnectionTally {
         }
     }
 
-    /// One more was accepted.
+    /// Counts one that was accepted.
     pub fn accept(&mut self) {
         self.accepted = self.accepted.saturating_add(1);
     }
 
-    /// One more was closed.
+    /// Counts one that was closed.
     pub fn close(&mut self, ending: Ending) {
         let closed = match ending {
             Ending::Done => &mut self.done,
@@ -61,9 +61,9 @@ impl ConnectionTally {
 /// The connections of all nodes.
 #[derive(Drop)]
 pub struct Connections {
-    /// Those that got a place.
+    /// How many were accepted and got a place.
     pub accepted: Counter,
-    /// Those of them that were closed, by the reason.
+    /// How many of them were closed, by the reason (see [`Ending`]).
     pub done: Counter,
     pub late: Counter,
     pub room: Counter,
@@ -72,7 +72,7 @@ pub struct Connections {
 }
 
 impl Connections {
-    /// There was none.
+    /// Makes meters that have counted nothing.
     pub const fn new() -> Connections {
         Connections {
             accepted: Counter::new(),
@@ -84,7 +84,7 @@ impl Connections {
         }
     }
 
-    /// So many more came and went.
+    /// Adds a tally.
     pub fn count(&self, tally: ConnectionTally) {
         // Those that were accepted first, so that no more are closed than were.
         self.accepted.add(tally.accepted);
@@ -95,7 +95,7 @@ impl Connections {
         self.failed.add(tally.failed);
     }
 
-    /// How many are open.
+    /// Returns how many connections are open.
     pub fn open(&self) -> u64 {
         // Those that were closed first, so that none of them isn't among the accepted ones.
         let closed = self

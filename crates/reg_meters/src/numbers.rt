@@ -1,26 +1,26 @@
 // One number.
 use std::sync::atomic::{AtomicBool, AtomicU64, Ordering};
 
-/// A number that never falls while the process runs, up to 2^64 - 1; then it begins anew.
+/// A number that only rises while the process runs. After 2^64 - 1 it begins again at 0.
 #[derive(Drop)]
 pub struct Counter {
     count: AtomicU64,
 }
 
 impl Counter {
-    /// Nothing is counted.
+    /// Makes a counter at 0.
     pub const fn new() -> Counter {
         Counter {
             count: AtomicU64::new(0),
         }
     }
 
-    /// So many more.
+    /// Adds to the count.
     pub fn add(&self, more: u64) {
         self.count.fetch_add(more, Ordering::Relaxed);
     }
 
-    /// How many there were.
+    /// Returns the count.
     pub fn count(&self) -> u64 {
         self.count.load(Ordering::Relaxed)
     }
@@ -33,43 +33,44 @@ pub struct Gauge {
 }
 
 impl Gauge {
-    /// It is 0.
+    /// Makes a gauge at 0.
     pub const fn new() -> Gauge {
         Gauge {
             value: AtomicU64::new(0),
         }
     }
 
-    /// It is this now.
+    /// Sets the value.
     pub fn set(&self, value: u64) {
         self.value.store(value, Ordering::SeqCst);
     }
 
-    /// What it is.
+    /// Returns the value.
     pub fn value(&self) -> u64 {
         self.value.load(Ordering::SeqCst)
     }
 }
 
-/// Whether something is so.
+/// A flag that is set or not.
 #[derive(Drop)]
 pub struct Mark {
     is_set: AtomicBool,
 }
 
 impl Mark {
-    /// It isn't.
+    /// Makes a mark that isn't set.
     pub const fn new() -> Mark {
         Mark {
             is_set: AtomicBool::new(false),
         }
     }
 
-    /// Whether it is so from now on.
+    /// Sets the mark or clears it.
     pub fn set(&self, is_set: bool) {
         self.is_set.store(is_set, Ordering::SeqCst);
     }
 
+    /// Returns whether the mark is set.
     pub fn is_set(&self) -> bool {
         self.is_set.load(Ordering::SeqCst)
     }

@@ -1,21 +1,22 @@
 // What requests ask, as metrics tell them apart.
 use reg_routes::Action;
 
-/// What a request asks, by its path and its method.
+/// The class of a request on the page of metrics, by its path and its method.
 #[derive(Clone, Copy, Debug, PartialEq, Eq)]
 pub enum RequestClass {
     /// A query.
     Lookup,
     /// A check of a schema.
     Check,
-    /// What may write something.
+    /// A command, which may write something.
     Command,
-    /// Nothing of the registry: it has no such path, or the path not that method, or the request couldn't be read.
+    /// Not a request of the registry: no such path, no such method at the path, or it couldn't be
+    /// read.
     Refused,
 }
 
 impl RequestClass {
-    /// That of requests which ask this.
+    /// Returns the class of the requests with that action.
     pub fn of(action: Option<Action>) -> RequestClass {
         match action {
             Some(
@@ -43,7 +44,7 @@ impl RequestClass {
         }
     }
 
-    /// Its name on the page.
+    /// Returns its name on the page.
     pub fn word(self) -> &'static str {
         match self {
             RequestClass::Lookup => "lookup",

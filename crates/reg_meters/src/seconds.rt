@@ -2,23 +2,24 @@
 use crate::numbers::Counter;
 use std::time::Clock;
 
-/// The bounds up to which is counted, in microseconds.
+/// The bounds of the counts of durations, in microseconds.
 pub static BOUNDS: [u64; 14] = [
     50, 100, 200, 500, 1_000, 2_000, 5_000, 10_000, 20_000, 50_000, 100_000, 500_000, 1_000_000,
     5_000_000,
 ];
 
-/// How often something took how long.
+/// Counts of durations, by bounds, and their sum.
 #[derive(Drop)]
 pub struct Seconds {
-    /// For each bound what took no longer, but longer than the bound before it; and last what took longer than all.
+    /// For each bound the durations within it and above the bound before; last those above all
+    /// bounds.
     counts: [Counter; 15],
-    /// All of it together, in microseconds.
+    /// The sum of the durations, in microseconds.
     sum: Counter,
 }
 
 impl Seconds {
-    /// Nothing is counted.
+    /// Makes a meter that has counted nothing.
     pub const fn new() -> Seconds {
         Seconds {
             counts: [
@@ -42,7 +43,7 @@ impl Seconds {
         }
     }
 
-    /// Once more something took so many microseconds.
+    /// Counts a duration, in microseconds.
     pub fn count(&self, took: u64) {
         let place = BOUNDS
             .iter()
@@ -54,7 +55,7 @@ impl Seconds {
         self.sum.add(took);
     }
 
-    /// The counts of the bounds, and last what took longer than all.
+    /// Returns the counts of the bounds, and last that of the durations above all bounds.
     pub fn counts(&self) -> [u64; 15] {
         let c = &self.counts;
         [
@@ -76,13 +77,13 @@ impl Seconds {
         ]
     }
 
-    /// All of it together, in microseconds.
+    /// Returns the sum of the durations, in microseconds.
     pub fn sum(&self) -> u64 {
         self.sum.count()
     }
 }
 
-/// The time of the clock that never goes back, in microseconds; 0 where there is none.
+/// Returns the time of the monotonic clock in microseconds; 0 if there is no clock.
 pub fn microseconds<R: Clock>(rt: &R) -> u64 {
     match rt.monotonic() {
         Ok(now) => now

@@ -1,4 +1,4 @@
-// What came over the connections of all nodes.
+// The numbers of all requests, answers and connections.
 use crate::answers::AnswerMeters;
 use crate::connections::Connections;
 use crate::numbers::Counter;
@@ -6,24 +6,24 @@ use crate::requests::RequestClass;
 use crate::seconds::Seconds;
 use reg_routes::Endpoint;
 
-/// What came over the connections of all nodes.
+/// The requests, answers and connections of all nodes.
 #[derive(Drop)]
 pub struct Traffic {
-    /// How many requests were answered.
+    /// The answers, by path, method and status.
     pub answers: AnswerMeters,
-    /// How long a worker took for them, by what they asked.
+    /// How long a worker took for a request, by its class.
     pub lookups: Seconds,
     pub checks: Seconds,
     pub commands: Seconds,
     pub refused: Seconds,
-    /// The bytes of all these requests, and those of their answers.
+    /// The bytes of all answered requests, and those of their answers.
     pub request_bytes: Counter,
     pub response_bytes: Counter,
     pub connections: Connections,
 }
 
 impl Traffic {
-    /// Nothing came.
+    /// Makes meters that have counted nothing.
     pub const fn new() -> Traffic {
         Traffic {
             answers: AnswerMeters::new(),
@@ -37,7 +37,7 @@ impl Traffic {
         }
     }
 
-    /// How long a worker took for the requests of that class.
+    /// Returns how long a worker took for the requests of that class.
     pub fn of_class(&self, class: RequestClass) -> &Seconds {
         match class {
             RequestClass::Lookup => &self.lookups,
@@ -47,8 +47,8 @@ impl Traffic {
         }
     }
 
-    /// A request that went there was answered with that status: a request of so many bytes, by an answer of so many, for which a worker took
-    /// so many microseconds.
+    /// Counts an answered request: its endpoint, the status of the answer, the bytes of both, and
+    /// how long a worker took, in microseconds.
     pub fn count(
         &self,
         endpoint: Endpoint,

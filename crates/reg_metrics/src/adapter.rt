@@ -1,13 +1,13 @@
 // What an adapter answers.
 
-/// What an adapter answers to a request.
+/// The reply of an adapter (the program that keeps a shared log) to a request.
 #[derive(Clone, Copy, Debug, PartialEq, Eq)]
 pub enum AdapterReply {
-    /// It is kept; of a check, nothing came.
+    /// The batch is kept. For a check: nothing new came.
     Kept,
-    /// Something came first.
+    /// Something else came first.
     Behind,
     Declined,
-    /// It isn't known whether it is kept.
+    /// It isn't known whether the batch is kept.
     Lost,
 }

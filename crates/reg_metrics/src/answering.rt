@@ -7,8 +7,8 @@ use crate::stage::Stage;
 use itoa::Buffer;
 use std::alloc::{AllocError, Global};
 
-/// The whole response to what is asked, after which the connection closes, where the process is at that stage; the page is that of
-/// its numbers. The only error is out of memory.
+/// Makes the whole response to what is asked; the connection closes after it. `page` is the page of
+/// numbers. The only error is out of memory.
 pub fn answer_to(
     alloc: Global,
     asked: PageRequest,
@@ -38,7 +38,7 @@ pub fn answer_to(
     }
 }
 
-/// Whether commands are answered, and else why not, in one word.
+/// Makes the response that says in one word whether commands are answered, or why not.
 fn ready(alloc: Global, stage: Stage) -> Result<Vec<u8>, AllocError>
     ensures { IfOk result (λ text. text.items ≡ ready_text stage) }
 {

@@ -14,11 +14,11 @@ pub enum PageRequest {
     NotFound,
     /// Another method.
     NotAllowed,
-    /// It is no request of HTTP/1.1 or 1.0.
+    /// No request of HTTP/1.1 or 1.0.
     Malformed,
 }
 
-/// What the head of a request asks. Its fields say nothing here.
+/// Returns what the head of a request asks, by its first line.
 pub fn asked_in(head: &[u8]) -> PageRequest
     ensures { result ≡ asked_in head.now }
 {
@@ -27,7 +27,7 @@ pub fn asked_in(head: &[u8]) -> PageRequest
     asked_by(method, rest)
 }
 
-/// What is asked by that method, with what stands behind it in the line.
+/// Returns what is asked by a method and the rest of the line after it.
 fn asked_by(method: &[u8], rest: &[u8]) -> PageRequest
     ensures { result ≡ asked_by method.now rest.now }
 {
@@ -45,7 +45,7 @@ fn is_version(text: &[u8]) -> bool
     text == b"HTTP/1.1".as_slice() || text == b"HTTP/1.0".as_slice()
 }
 
-/// What a method asks at a path.
+/// Returns what a method asks at a path.
 fn asked_at(method: &[u8], path: &[u8]) -> PageRequest
     ensures { result ≡ asked_at method.now path.now }
 {
@@ -67,7 +67,7 @@ fn asked_at(method: &[u8], path: &[u8]) -> PageRequest
     }
 }
 
-/// The bytes before the first separator, and those after it.
+/// Returns the bytes before the first separator, and those after it.
 fn split_once(bytes: &[u8], separator: u8) -> (&[u8], &[u8])
     ensures before { result.0.now ≡ before_first (λ b. b == separator) bytes.now }
     ensures after { result.1.now ≡ after_first (λ b. b == separator) bytes.now }

@@ -10,41 +10,41 @@ use std::sync::{Arc, Wait};
 use std::thread::{self, Threads};
 use std::time::{Clock, Duration, Instant};
 
-/// How many connections there are at most.
+/// The most connections at a time.
 const CONNECTIONS: u64 = 8;
 
-/// The bytes of a head at most.
+/// The most bytes of a head.
 const HEAD: usize = 8_192;
 
-/// The bytes of one read at most.
+/// The most bytes of one read.
 const PIECE: usize = 1_024;
 
-/// How long a request and its answer may take, in seconds.
+/// How long a request and its response may take, in seconds.
 const WITHIN: u64 = 10;
 
 /// How long a head may take, in seconds.
 const HEAD_WITHIN: u64 = 1;
 
-/// Where all threads wait for heads, so that a new connection would have to wait, one that sent nothing for so long is closed, in
-/// milliseconds.
+/// How long a connection that sent nothing is kept if all threads wait for heads, in milliseconds.
+/// Then it is closed, so that a new connection gets a thread.
 const SILENT: u64 = 10;
 
-/// So many times that there is within the time of a head.
+/// How often that time fits in the time of a head.
 const SILENCES: u64 = HEAD_WITHIN * 1_000 / SILENT;
 
-/// How long it is waited where no connection can be accepted, in milliseconds.
+/// The pause after a failed accept, in milliseconds.
 const AGAIN: u64 = 100;
 
-/// What is shown.
+/// The contents of the pages.
 pub trait Pages {
-    /// The page of numbers.
+    /// Makes the page of numbers. The only error is out of memory.
     fn metrics(&self, alloc: Global) -> Result<Vec<u8>, AllocError>;
 
-    /// How far the process is.
+    /// Returns how far the process is.
     fn stage(&self) -> Stage;
 }
 
-/// A listener, and what is shown there.
+/// A listener with the pages that it serves.
 #[derive(Drop)]
 struct Endpoint<R: Drop, P: Drop> {
     rt: R,
@@ -55,7 +55,8 @@ struct Endpoint<R: Drop, P: Drop> {
     waiting: AtomicU64,
 }
 
-/// Answers requests for pages at the listener, in threads that end with the process. Fails where one of them can't be made.
+/// Answers requests for pages at the listener, in threads that end with the process. Fails if a
+/// thread can't be made.
 pub fn serve_pages<
     R: Threads + Wait + Clock + Sync + Send + Copy + Drop + 'static,
     P: Pages + Sync + Send + Drop + 'static,
@@ -81,7 +82,7 @@ fn start<R: Threads, T: Answers + Send + Drop + 'static>(rt: &R, task: T) -> io:
     }
 }
 
-/// What a thread does.
+/// The work of a thread.
 trait Answers {
     fn answer_all(&self);
 }
@@ -139,7 +140,7 @@ fn send<R: Clock>(
     Ok(())
 }
 
-/// The time that is left of so many seconds; an error where none is.
+/// Returns the time that is left of `within` seconds; fails if none is.
 fn left<R: Clock>(rt: &R, begun: Instant, within: u64) -> io::Result<Duration> {
     let taken = Instant::now(rt)?.duration_since(begun);
     match Duration::from_secs(within).checked_sub(taken) {
@@ -153,7 +154,7 @@ fn left<R: Clock>(rt: &R, begun: Instant, within: u64) -> io::Result<Duration> {
     }
 }
 
-/// The bytes up to an empty line; none where there is none within the limit.
+/// Reads the bytes up to an empty line; `None` if there is none within the limit.
 fn take_head<R: Clock>(
     rt: &R,
     alloc: Global,
@@ -177,7 +178,8 @@ fn take_head<R: Clock>(
     Ok(None)
 }
 
-/// Reads some of a head; an error where it takes too long, or where nothing came yet and others have to wait.
+/// Reads some of a head. Fails if it takes too long, or if nothing came yet and others have to
+/// wait.
 fn take_piece<R: Clock>(
     rt: &R,
     stream: &mut TcpStream,
@@ -203,7 +205,7 @@ fn take_piece<R: Clock>(
     Err(io::Error::from(ErrorKind::TimedOut))
 }
 
-/// Whether an empty line stands in the bytes.
+/// Returns whether there is an empty line in the bytes.
 fn has_end(bytes: &[u8]) -> bool {
     for place in 0..bytes.len() {
         if bytes[place..].starts_with(b"\r\n\r\n") {

@@ -7,7 +7,7 @@ use exposition::{Family, Fixed, LabelName, LabelPair, Name, Number, Sample, Samp
 use reg_meters::{BOUNDS, Seconds};
 use std::alloc::{AllocError, Global};
 
-/// A family of one number that never falls.
+/// Makes a family of one number that only rises.
 pub(crate) fn counter(
     alloc: Global,
     name: Name,
@@ -21,7 +21,7 @@ pub(crate) fn counter(
     })
 }
 
-/// A family of one number that rises and falls.
+/// Makes a family of one number that rises and falls.
 pub(crate) fn gauge(
     alloc: Global,
     name: Name,
@@ -35,7 +35,7 @@ pub(crate) fn gauge(
     })
 }
 
-/// One sample without labels.
+/// Makes one sample without labels.
 fn alone(alloc: Global, number: Number) -> Result<Listed<Sample>, AllocError> {
     let mut samples = Vec::new(alloc);
     samples.push(Sample {
@@ -45,7 +45,7 @@ fn alone(alloc: Global, number: Number) -> Result<Listed<Sample>, AllocError> {
     Ok(Listed::from(samples))
 }
 
-/// A sample for each of the values of a label, in their order.
+/// Makes a sample for each value of a label, in their order.
 pub(crate) fn by_label(
     alloc: Global,
     label: &'static str,
@@ -80,7 +80,7 @@ pub(crate) fn push_label(
     Ok(())
 }
 
-/// How often something took how long.
+/// Makes a series of a histogram from counts of durations.
 pub(crate) fn series(
     alloc: Global,
     labels: Listed<LabelPair>,

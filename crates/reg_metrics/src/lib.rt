@@ -1,4 +1,25 @@
-//! What an operator looks at: whether a process answers commands, and numbers of it, over HTTP and in Prometheus' text format.
+//! What an operator looks at: whether a process answers commands, and its numbers, over HTTP.
+//!
+//! There are two pages. `GET /metrics` gives the numbers in Prometheus' text format. `GET /ready`
+//! gives 200 if the process is at [`Stage::Ready`], else 503; its body is the stage in one word.
+//!
+//! One idea: the pages have a listener and threads of their own ([`serve_pages`]), so they don't
+//! wait for the workers of a node. There are 8 threads, each with one connection at a time, which
+//! closes after its response. The head of a request has at most 8,192 bytes and 1 second; request
+//! and response together have 10 seconds.
+//!
+//! The numbers are those of `reg_meters` and of the meters here ([`BatchMeters`], [`FileMeters`],
+//! [`LineMeters`], [`AdapterMeters`]). Functions such as [`traffic_families`] append them to a
+//! page.
+//!
+//! This crate doesn't know the text format (`exposition`), and looks only at the first line of a
+//! request.
+//!
+//! The main contracts are that of [`answer_to`], which states the whole response, and the clause
+//! `ready` of [`Condition::stage`]: a process is ready exactly if its nodes listen and no fault or
+//! end of its log is known.
+//!
+//! Tests: `log_cases` and `test_service`.
 #![tactic(auto)]
 
 mod adapter;

@@ -5,7 +5,8 @@ use base_text::Listed;
 use exposition::{Family, Fixed, Name, Number, Samples};
 use std::alloc::{AllocError, Global};
 
-/// What became of the batches that a log was asked to keep.
+/// Appends the results of the batches that the log was asked to keep. The only error is out of
+/// memory.
 pub fn batch_families(
     alloc: Global,
     meters: &BatchMeters,
@@ -38,7 +39,7 @@ pub fn batch_families(
     Ok(())
 }
 
-/// The numbers of a log's file.
+/// Appends the numbers of a log's file. The only error is out of memory.
 pub fn file_families(
     alloc: Global,
     meters: &FileMeters,
@@ -102,7 +103,7 @@ fn compaction_families(
     Ok(())
 }
 
-/// The numbers of lines that are followed.
+/// Appends the numbers of a followed log's lines. The only error is out of memory.
 pub fn line_families(
     alloc: Global,
     meters: &LineMeters,
@@ -123,7 +124,7 @@ pub fn line_families(
     Ok(())
 }
 
-/// The numbers of a log that others write too.
+/// Appends the numbers of a log that other processes write too. The only error is out of memory.
 pub fn adapter_families(
     alloc: Global,
     meters: &AdapterMeters,

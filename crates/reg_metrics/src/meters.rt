@@ -2,33 +2,36 @@
 use crate::adapter::AdapterReply;
 use reg_meters::{Counter, Gauge, Mark, Seconds};
 
-/// How long a store counts as away from when it declined a check, in microseconds, if nothing else is known of it by then.
+/// How long a store counts as away after it declined a check, in microseconds, unless it answers
+/// before.
 const AWAY: u64 = 30_000_000;
 
 /// How long a request may have no answer before the store counts as away, in microseconds.
 const PATIENCE: u64 = 30_000_000;
 
-/// For so long an answer of the store shows that it is there, in microseconds.
-const FRESH: u64 = 33_000_000;
+/// How long an answer of the store shows that it can be reached beyond the time to the next check,
+/// in microseconds.
+const FRESH: u64 = 28_000_000;
 
-/// What became of the batches that a log was asked to keep.
+/// The results of the batches that a log was asked to keep.
 #[derive(Drop)]
 pub struct BatchMeters {
     pub kept: Counter,
-    /// Nothing of them was kept.
+    /// Nothing of the batch was kept.
     pub declined: Counter,
-    /// It can't be said whether they are kept, and nothing is taken any more.
+    /// It isn't known whether the batch is kept, and nothing more is taken.
     pub lost: Counter,
-    /// Whether they stand in the log can't be known now; those that do are told later, like batches that somebody else wrote.
+    /// It isn't known now whether the batch is in the log. If it is, it comes later like a batch of
+    /// another process.
     pub unknown: Counter,
-    /// Somebody else's came first.
+    /// A batch of another process came first.
     pub overtaken: Counter,
-    /// How long it took to keep one.
+    /// How long it took to keep a batch.
     pub seconds: Seconds,
 }
 
 impl BatchMeters {
-    /// There was none.
+    /// Makes meters that have counted nothing.
     pub const fn new() -> BatchMeters {
         BatchMeters {
             kept: Counter::new(),
@@ -44,23 +47,24 @@ impl BatchMeters {
 /// The numbers of a log's file.
 #[derive(Drop)]
 pub struct FileMeters {
-    /// The records of the batches that were kept.
+    /// How many records were kept.
     pub records: Counter,
-    /// The lines of the file, and its bytes.
+    /// How many lines the file has, and how many bytes.
     pub lines: Gauge,
     pub bytes: Gauge,
-    /// The offset behind the last record.
+    /// The offset of the next record.
     pub next: Gauge,
-    /// New files that took the place of the old one, those that didn't, and how long it took to write them, in microseconds.
+    /// How many compacted files replaced the old file, how many failed to, and how long writing
+    /// them took, in microseconds.
     pub renewed: Counter,
     pub not_renewed: Counter,
     pub renewal: Counter,
-    /// Whether the file couldn't be compacted when that was tried last.
+    /// Whether the last compaction of the file failed.
     pub is_uncompacted: Mark,
 }
 
 impl FileMeters {
-    /// Nothing is known of it.
+    /// Makes meters that have counted nothing.
     pub const fn new() -> FileMeters {
         FileMeters {
             records: Counter::new(),
@@ -75,17 +79,17 @@ impl FileMeters {
     }
 }
 
-/// The numbers of lines that are followed.
+/// The numbers of a followed log's lines.
 #[derive(Drop)]
 pub struct LineMeters {
-    /// How many came.
+    /// How many lines came.
     pub lines: Counter,
     /// When the last one came, in microseconds since 1970.
     pub last: Gauge,
 }
 
 impl LineMeters {
-    /// None came.
+    /// Makes meters that have counted nothing.
     pub const fn new() -> LineMeters {
         LineMeters {
             lines: Counter::new(),
@@ -94,29 +98,31 @@ impl LineMeters {
     }
 }
 
-/// The numbers of a log that others write too, as an adapter tells it.
+/// The numbers of a log that other processes write too, as its adapter reports it.
 #[derive(Drop)]
 pub struct AdapterMeters {
-    /// The checks, by what they were answered.
+    /// The checks, by the adapter's reply.
     pub kept: Counter,
     pub behind: Counter,
     pub declined: Counter,
-    /// When a check was answered last by the store, in microseconds since 1970.
+    /// When the store last answered a check, in microseconds since 1970.
     pub last: Gauge,
-    /// Whether a request has no answer, since when, and whether it is a check.
+    /// Whether a request waits for an answer, since when, and whether it is a check.
     is_open: Mark,
     asked: Gauge,
     is_check: Mark,
-    /// Whether a check was declined, and nothing came from the store since; and when.
+    /// Whether a check was declined and nothing came from the store since, and when.
     is_declined: Mark,
     refused: Gauge,
-    /// Whether nodes listen, and when the store answered last since then.
+    /// Whether nodes listen and checks are made by themselves; when the store last answered since
+    /// then, and for how long that shows that it can be reached.
     is_joined: Mark,
     answered: Gauge,
+    fresh: Gauge,
 }
 
 impl AdapterMeters {
-    /// Nothing was said.
+    /// Makes meters that have counted nothing.
     pub const fn new() -> AdapterMeters {
         AdapterMeters {
             kept: Counter::new(),
@@ -130,28 +136,34 @@ impl AdapterMeters {
             refused: Gauge::new(),
             is_joined: Mark::new(),
             answered: Gauge::new(),
+            fresh: Gauge::new(),
         }
     }
 
-    /// All was taken in that the store had at that moment, in microseconds of one clock.
-    pub fn join(&self, now: u64) {
+    /// Notes that everything that the store had is taken in, and that a check is made if none was
+    /// for `every`; for 0 none is made by itself, and the last answer has no age. Both are
+    /// microseconds, `now` of one clock.
+    pub fn join(&self, now: u64, every: u64) {
         self.answered.set(now);
-        self.is_joined.set(true);
+        self.fresh.set(every.saturating_add(FRESH));
+        self.is_joined.set(every > 0);
     }
 
-    /// A request is made at that moment, in microseconds of one clock: a check, or one for a batch.
+    /// Notes that a request is made: a check, or one for a batch. `now` is microseconds of one
+    /// clock.
     pub fn ask(&self, is_check: bool, now: u64) {
         self.is_check.set(is_check);
         self.asked.set(now);
         self.is_open.set(true);
     }
 
-    /// The adapter told a batch that others wrote: so the store is there.
+    /// Notes that a batch of another process came, so the store can be reached.
     pub fn hear_batch(&self) {
         self.is_declined.set(false);
     }
 
-    /// The adapter answered that at that moment, which is `date` in microseconds since 1970. What becomes of batches is counted in `batches`.
+    /// Notes the reply of the adapter. Results of batches are counted in `batches`. `now` is
+    /// microseconds of one clock, `date` is microseconds since 1970.
     pub fn hear_reply(&self, batches: &BatchMeters, reply: AdapterReply, now: u64, date: u64) {
         let took = now.saturating_sub(self.asked.value());
         self.is_open.set(false);
@@ -177,7 +189,7 @@ impl AdapterMeters {
         self.answer(now);
     }
 
-    /// The store answered.
+    /// Notes that the store answered.
     fn answer(&self, now: u64) {
         self.answered.set(now);
         self.is_declined.set(false);
@@ -200,14 +212,15 @@ impl AdapterMeters {
         self.answer(now);
     }
 
-    /// Whether the store counts as away at that moment: a request has had no answer for 30 s, or a check was declined no longer ago and
-    /// nothing came from the store since, or its last answer is 33 s old.
+    /// Returns whether the store counts as away: a request has had no answer for 30 s, or a check
+    /// was declined less than 30 s ago and nothing came from the store since, or its last answer is
+    /// 28 s older than the next check was to be.
     pub fn is_away(&self, now: u64) -> bool {
         let is_late = self.is_open.is_set() && now.saturating_sub(self.asked.value()) >= PATIENCE;
         let is_refused = self.is_declined.is_set()
             && now.saturating_sub(self.refused.value()) < AWAY;
         let is_stale = self.is_joined.is_set()
-            && now.saturating_sub(self.answered.value()) >= FRESH;
+            && now.saturating_sub(self.answered.value()) >= self.fresh.value();
         is_late || is_refused || is_stale
     }
 }

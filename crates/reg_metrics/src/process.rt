@@ -2,7 +2,7 @@
 use std::alloc::Alloc;
 use std::fs::{self, Files};
 
-/// How many ticks of a process' times a second has on Linux, whatever its kernel counts itself by.
+/// How many ticks a second has in the times of a process on Linux.
 const TICKS: u64 = 100;
 
 /// The bytes of a page on x86-64.
@@ -10,21 +10,21 @@ const PAGE: u64 = 4_096;
 
 const MICROSECONDS: u64 = 1_000_000;
 
-/// What the system says of a process.
+/// The numbers that the system has of a process.
 #[derive(Clone, Copy, Debug, PartialEq, Eq)]
 pub struct ProcessNumbers {
-    /// The time of processors that it took, in microseconds.
+    /// The processor time that it took, in microseconds.
     pub cpu: u64,
-    /// How long after the system it began, in microseconds.
+    /// How long after the start of the system it began, in microseconds.
     pub begun: u64,
-    /// Its bytes of addresses, and those of memory.
+    /// The bytes of its address space, and those of its memory.
     pub addresses: u64,
     pub memory: u64,
 }
 
-/// The numbers in the text of `/proc/PID/stat` (proc(5)).
+/// Reads the numbers from the text of `/proc/PID/stat` (proc(5)); `None` if it isn't such a text.
 pub fn numbers_in(stat: &str) -> Option<ProcessNumbers> {
-    // The program's name stands in brackets, and may have any byte.
+    // The program's name is in brackets, and may have any byte.
     let (_name, rest) = stat.rsplit_once(") ")?;
     let user = field(rest, 11)?;
     let system = field(rest, 12)?;
@@ -39,7 +39,7 @@ pub fn numbers_in(stat: &str) -> Option<ProcessNumbers> {
     })
 }
 
-/// The number in that place among words.
+/// Returns the number at that place among words.
 fn field(words: &str, place: usize) -> Option<u64> {
     words.split(' ').nth(place)?.parse::<u64>().ok()
 }
@@ -48,7 +48,8 @@ fn microseconds(ticks: u64) -> u64 {
     ticks.saturating_mul(MICROSECONDS / TICKS)
 }
 
-/// When the system started, in microseconds since 1970, by the text of `/proc/stat` (proc(5)).
+/// Reads from the text of `/proc/stat` (proc(5)) when the system started, in microseconds since
+/// 1970; `None` if it doesn't say.
 pub fn started_in(stat: &str) -> Option<u64> {
     for line in stat.lines() {
         if let Some(seconds) = line.strip_prefix("btime ") {
@@ -64,7 +65,8 @@ pub fn started_in(stat: &str) -> Option<u64> {
     None
 }
 
-/// What the system says of this process, and when it started, in microseconds since 1970; none where it says nothing.
+/// Returns the numbers of this process, and when it began, in microseconds since 1970; `None` if
+/// the system doesn't say.
 pub fn process_numbers<R: Files + Alloc + Clone + Drop>(rt: &R) -> Option<(ProcessNumbers, u64)> {
     let own = fs::read_to_string(rt, "/proc/self/stat").ok()?;
     let system = fs::read_to_string(rt, "/proc/stat").ok()?;

@@ -11,22 +11,24 @@ pub enum Stage {
     Starting,
     /// Nodes listen.
     Ready,
-    /// It isn't known what became of a batch: commands are refused until the process starts anew.
+    /// It isn't known whether a batch is kept: commands are refused until the process is restarted.
     Lost,
-    /// Every command is declined until the process starts anew: at its start the disk had no room for what had to be written.
+    /// Every command is declined until the process is restarted: at its start the disk had no room
+    /// for what had to be written.
     Declined,
-    /// The log has no line for a batch, so commands are declined.
+    /// The log has no line left for a batch, so commands are declined.
     Full,
-    /// What stands in the log next is no command's: nothing more is taken in, and commands are declined.
+    /// The next part of the log comes from no command: nothing more is taken in, and commands are
+    /// declined.
     Unlawful,
-    /// The store that has the log can't be reached.
+    /// The store of the log can't be reached.
     Unreachable,
-    /// The log's lines have ended: nodes go on with what they have.
+    /// The lines of the followed log have ended: nodes go on with what they have.
     Ended,
 }
 
 impl Stage {
-    /// In one word.
+    /// Returns the stage in one word.
     pub fn word(self) -> &'static str {
         match self {
             Stage::Starting => "starting",
@@ -46,22 +48,22 @@ impl Stage {
 pub struct Condition {
     /// Nodes listen.
     pub listens: bool,
-    /// It isn't known what became of a batch.
+    /// It isn't known whether a batch is kept.
     pub is_lost: bool,
-    /// Every command is declined until the process starts anew.
+    /// Every command is declined until the process is restarted.
     pub is_declined: bool,
-    /// The log has no line for a batch.
+    /// The log has no line left for a batch.
     pub is_full: bool,
-    /// What stands in the log next is no command's.
+    /// The next part of the log comes from no command.
     pub is_unlawful: bool,
-    /// The log's lines have ended.
+    /// The lines of the followed log have ended.
     pub has_ended: bool,
-    /// The store that has the log can't be reached.
+    /// The store of the log can't be reached.
     pub is_away: bool,
 }
 
 impl Condition {
-    /// How far the process is. It is ready once nodes listen, where nothing else is known.
+    /// Returns how far the process is. It is ready if nodes listen and nothing else is known.
     pub fn stage(self) -> Stage
         ensures ready { result ≡ Stage.Ready ↔ IsClear self }
         ensures starting { result ≡ Stage.Starting ↔ self.listens ≡ false }
@@ -89,7 +91,7 @@ impl Condition {
     }
 }
 
-/// What is known of a process, for all its threads.
+/// What is known of a process and its log, shared by all its threads.
 #[derive(Drop)]
 pub struct Marks {
     pub listens: Mark,
@@ -101,7 +103,7 @@ pub struct Marks {
 }
 
 impl Marks {
-    /// Nothing is.
+    /// Makes marks of which none is set.
     pub const fn new() -> Marks {
         Marks {
             listens: Mark::new(),
@@ -113,7 +115,7 @@ impl Marks {
         }
     }
 
-    /// What is known now, beside whether the store can't be reached.
+    /// Returns what is known now. `is_away` is whether the store can't be reached.
     pub fn condition(&self, is_away: bool) -> Condition {
         Condition {
             listens: self.listens.is_set(),

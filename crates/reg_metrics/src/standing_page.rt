@@ -6,7 +6,8 @@ use base_text::Listed;
 use exposition::{Family, Fixed, Name, Number, Sample, Samples};
 use std::alloc::{AllocError, Global};
 
-/// How far a process of that version and command is.
+/// Appends how far the process is, with its version and its command. The only error is out of
+/// memory.
 pub fn stage_families(
     alloc: Global,
     version: &'static str,
@@ -60,7 +61,8 @@ fn info(alloc: Global, version: &'static str, command: &'static str) -> Result<F
     })
 }
 
-/// What the system says of the process, which began at that moment, in microseconds since 1970.
+/// Appends the numbers that the system has of the process. `begun` is when it began, in
+/// microseconds since 1970. The only error is out of memory.
 pub fn process_families(
     alloc: Global,
     numbers: &ProcessNumbers,

@@ -6,7 +6,7 @@ use reg_meters::{AnswerMeters, Connections, RequestClass, STATUSES, Traffic};
 use reg_routes::{Endpoint, Route};
 use std::alloc::{AllocError, Global};
 
-/// The registry's paths, in the order of the page.
+/// The paths of the registry, in the order of the page.
 static ROUTES: [Route; 13] = [
     Route::SchemaById,
     Route::IdVersions,
@@ -26,7 +26,7 @@ static ROUTES: [Route; 13] = [
 /// The methods that paths offer, in the order of the page.
 static METHODS: [&str; 4] = ["GET", "POST", "PUT", "DELETE"];
 
-/// What the page says for a path or a method that isn't the registry's.
+/// The label of a path or a method that isn't the registry's.
 const OTHER: &str = "other";
 
 static CLASSES: [RequestClass; 4] = [
@@ -36,7 +36,7 @@ static CLASSES: [RequestClass; 4] = [
     RequestClass::Refused,
 ];
 
-/// What came over the connections of all nodes.
+/// Appends the requests, answers and connections of all nodes. The only error is out of memory.
 pub fn traffic_families(
     alloc: Global,
     traffic: &Traffic,
@@ -59,7 +59,7 @@ pub fn traffic_families(
     connection_families(alloc, &traffic.connections, out)
 }
 
-/// The requests by what they asked, their method, their path and the status of the answer; of those that there were none of nothing is said.
+/// Makes the counts of requests by class, method, path and status. Counts of 0 are left out.
 fn answered(alloc: Global, traffic: &Traffic) -> Result<Family, AllocError> {
     let mut samples = Vec::new(alloc);
     for route in &ROUTES {
@@ -75,7 +75,7 @@ fn answered(alloc: Global, traffic: &Traffic) -> Result<Family, AllocError> {
     })
 }
 
-/// The requests of a path: those of each method that it offers, and then the others.
+/// Appends the requests of a path: those of each method that it offers, and then the others.
 fn push_route(
     alloc: Global,
     answers: &AnswerMeters,
@@ -96,7 +96,7 @@ fn push_route(
     push_endpoint(alloc, answers, others, out)
 }
 
-/// The requests that went there.
+/// Appends the requests with that endpoint.
 fn push_endpoint(
     alloc: Global,
     answers: &AnswerMeters,

@@ -5,7 +5,8 @@ ghost use Rattle.reg_modes.specs.InForce as spec;
 use crate::mode::Mode;
 use reg_fold::Registry;
 
-/// The mode that a subject has of its own, or the one for all subjects. Takes no memory.
+/// Returns the mode set on a subject itself, or with `None` the global one, if it was set. A name
+/// that is no mode's counts as READONLY. Takes no memory.
 pub fn own_mode(registry: &Registry, subject: Option<&str>) -> Option<Mode>
     ensures { result ≡ spec.own_mode registry.now (option_map (λ s. s.now) subject.entry) }
 {
@@ -13,8 +14,8 @@ pub fn own_mode(registry: &Registry, subject: Option<&str>) -> Option<Mode>
     Some(Mode::standing(name))
 }
 
-/// The mode in force for a subject, or for all subjects: the subject's own, else the one for all,
-/// else `Readwrite`. Takes no memory.
+/// Returns the mode in force for a subject, or with `None` for all subjects: the subject's own,
+/// else the global one, else READWRITE. Takes no memory.
 pub fn mode_in_force(registry: &Registry, subject: Option<&str>) -> Mode
     ensures { result ≡ spec.mode registry.now (option_map (λ s. s.now) subject.entry) }
 {

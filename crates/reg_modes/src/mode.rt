@@ -4,19 +4,19 @@ ghost use Rattle.reg_modes.specs.Mode.{mode_named, mode_text, standing_mode};
 
 use std::fmt;
 
-/// Which commands a scope permits, as the Schema Registry API has it.
+/// Which commands a scope permits, as in the Confluent Schema Registry API.
 #[derive(Clone, Copy, Debug, PartialEq, Eq)]
 pub enum Mode {
-    /// All but registrations with an id.
+    /// Permits all commands except registrations with an id.
     Readwrite,
-    /// Changes of modes alone.
+    /// Permits only changes of modes.
     Readonly,
-    /// All but registrations without an id.
+    /// Permits all commands except registrations without an id.
     Import,
 }
 
 impl Mode {
-    /// The mode of that name, whatever the case of its ASCII letters. Takes no memory.
+    /// Parses the name of a mode; the case of ASCII letters is ignored. Takes no memory.
     pub fn parse(name: &str) -> Option<Mode>
         ensures { result ≡ mode_named name.now }
     {
@@ -31,14 +31,14 @@ impl Mode {
         }
     }
 
-    /// What the name in a record stands for: a name that is no mode's stands as `Readonly`.
+    /// Returns the mode that a name in a record means. A name that is no mode's means `Readonly`.
     pub(crate) fn standing(name: &str) -> Mode
         ensures { result ≡ standing_mode name.now }
     {
         Mode::parse(name).unwrap_or(Mode::Readonly)
     }
 
-    /// Its name, in capitals.
+    /// Returns the mode's name, in capitals.
     pub fn as_str(self) -> &'static str
         ensures { result.now ≡ mode_text self }
     {

@@ -5,8 +5,8 @@ ghost use Rattle.reg_modes.specs.Permitted as spec;
 use crate::mode::Mode;
 use reg_fold::{Reason, Refusal, Registry};
 
-/// Refuses where the mode permits no registration with an id, or without one. The only refusal is
-/// `NotPermitted`, with its reason.
+/// Tests that the mode permits a registration with an id, or without one. The only refusal is
+/// `NotPermitted`, with `Readonly`, `IdNeedsImport` or `ImportNeedsId`.
 pub fn may_register(mode: Mode, has_id: bool) -> Result<(), Refusal>
     ensures { result ≡ spec.may_register mode has_id }
 {
@@ -18,8 +18,8 @@ pub fn may_register(mode: Mode, has_id: bool) -> Result<(), Refusal>
     }
 }
 
-/// Refuses where the mode permits no deletes and changes of levels. The only refusal is
-/// `NotPermitted`, with its reason.
+/// Tests that the mode permits deletes and changes of levels. The only refusal is `NotPermitted`
+/// with `Readonly`.
 pub fn may_write(mode: Mode) -> Result<(), Refusal>
     ensures { result ≡ spec.may_write mode }
 {
@@ -29,8 +29,8 @@ pub fn may_write(mode: Mode) -> Result<(), Refusal>
     }
 }
 
-/// Refuses to set a subject, or all subjects, to IMPORT where a version of theirs is live and it isn't
-/// forced. The only refusal is `NotPermitted`, with its reason.
+/// Tests that a subject, or with `None` all subjects, may be set to IMPORT: it is forced, or no
+/// version in that scope is live. The only refusal is `NotPermitted` with `ScopeIsNotEmpty`.
 pub fn may_set_import(
     registry: &Registry,
     subject: Option<&str>,

@@ -11,7 +11,7 @@ use crate::pieces::{LineBuffer, Piece, take_piece};
 use std::alloc::AllocError;
 use std::io::{self, BufRead, ErrorKind, Read, Write};
 
-/// A reader or a writer that counts the faults which it answers.
+/// A reader or a writer with counts of its faults, reads, bytes and interruptions.
 ///
 /// A fault is an error of a read, a write or a flush other than an interruption, or a write that
 /// takes no byte of a piece that has some.
@@ -28,7 +28,7 @@ pub struct Device<T> {
 }
 
 impl<T> Device<T> {
-    /// A device round `inner`, with no fault counted.
+    /// Wraps `inner`, with all counts at 0.
     pub fn new(inner: T) -> Device<T>
         ensures faults { faults_of result ≡ 0 }
         ensures reads { reads_of result ≡ 0 }
@@ -51,57 +51,57 @@ impl<T> Device<T> {
         }
     }
 
-    /// How many faults it has answered, up to `u64::MAX`.
+    /// Returns the number of faults so far, up to `u64::MAX`.
     pub fn faults(&self) -> u64
         ensures { result ≡ faults_of self.now }
     {
         self.faults
     }
 
-    /// How many reads it has made since its count began, up to `u64::MAX`.
+    /// Returns the number of reads since the count began, up to `u64::MAX`.
     pub fn reads(&self) -> u64
         ensures { result ≡ reads_of self.now }
     {
         self.reads
     }
 
-    /// How many reads it has made in all, up to `u64::MAX`.
+    /// Returns the number of all reads, up to `u64::MAX`.
     pub fn all_reads(&self) -> u64
         ensures { result ≡ all_reads_of self.now }
     {
         self.all_reads
     }
 
-    /// How many bytes it has given in all, up to `u64::MAX`: the place where it stands.
+    /// Returns the number of bytes read in all, up to `u64::MAX`: the position in the input.
     pub fn place(&self) -> u64
         ensures { result ≡ place_of self.now }
     {
         self.place
     }
 
-    /// The place where its count of reads began.
+    /// Returns the position at which the count of reads began.
     pub fn begun(&self) -> u64
         ensures { result ≡ begun_of self.now }
     {
         self.begun
     }
 
-    /// How many of its writes and flushes in a row were interrupted, up to `u64::MAX`.
+    /// Returns how many writes and flushes in a row were interrupted, up to `u64::MAX`.
     pub fn interruptions(&self) -> u64
         ensures { result ≡ interruptions_of self.now }
     {
         self.interruptions
     }
 
-    /// How many of its writes and flushes were interrupted in all, up to `u64::MAX`.
+    /// Returns how many writes and flushes were interrupted in all, up to `u64::MAX`.
     pub fn all_interruptions(&self) -> u64
         ensures { result ≡ all_interruptions_of self.now }
     {
         self.all_interruptions
     }
 
-    /// Begins the counts of reads and of interruptions in a row anew, as for a line or a request, at the
-    /// place where it stands.
+    /// Restarts the counts of reads and of interruptions in a row, for example for a line or a
+    /// request, at the present position.
     pub fn begin_count(&mut self)
         ensures inner { inner_of self.new ≡ inner_of self.old }
         ensures faults { faults_of self.new ≡ faults_of self.old }
@@ -151,7 +151,7 @@ impl<T> Device<T> {
         }
     }
 
-    /// Counts bytes that it gave.
+    /// Counts bytes that were read.
     fn count_bytes(&mut self, len: usize)
         ensures inner { inner_of self.new ≡ inner_of self.old }
         ensures faults { faults_of self.new ≡ faults_of self.old }
@@ -163,7 +163,7 @@ impl<T> Device<T> {
         self.place = self.place.saturating_add(len as u64);
     }
 
-    /// What it was made of.
+    /// Returns the wrapped reader or writer.
     pub fn into_inner(self) -> T
         ensures { result ≡ inner_of self }
     {
@@ -182,7 +182,8 @@ impl<T> Device<T> {
 }
 
 impl<R: BufRead> Device<R> {
-    /// Takes bytes of a line in one read, up to its LF, and counts the read, and a fault.
+    /// Takes bytes of a line in one read, up to its LF. Counts the read, and its fault if it has
+    /// one.
     pub(crate) fn take_piece(&mut self, line: &mut LineBuffer) -> Result<Piece, AllocError>
         ensures taken { IfOk result (TakesPiece (bytes_in R.remaining self.old) (bytes_in R.remaining self.new) line.old line.new) }
         ensures faults { MatchResult result (CountsPiece self.old self.new) (λ _. faults_of self.new ≡ faults_of self.old) }
@@ -267,14 +268,14 @@ impl<W: Output> Write for Device<W> {
     }
 }
 
-/// Whether an error of that kind is a fault, as all but an interruption are.
+/// Returns whether an error of that kind is a fault: each kind but an interruption.
 fn is_fault(kind: ErrorKind) -> bool
     ensures { IsTrue result ↔ (kind ≢ ErrorKind.Interrupted) }
 {
     kind != ErrorKind::Interrupted
 }
 
-/// One more, up to `u64::MAX`.
+/// Returns the count plus one, up to `u64::MAX`.
 fn one_more(count: u64) -> u64
     ensures { result ≡ counted count }
 {

@@ -12,18 +12,20 @@ use crate::line::{LineError, offset_of, text_of};
 use crate::log::LogFault;
 use std::alloc::{AllocError, Global};
 
-/// What the line of a floor begins with.
+/// The beginning of a floor line.
 const FLOOR_MARK: &[u8] = b"floor\t";
 
-/// Whether a line begins as a floor's does, and so the text whose first line it is.
+/// Returns whether a line, or a text by its first line, begins with `floor TAB`.
 pub fn is_floor_line(line: &[u8]) -> bool
     ensures { result ≡ is_floor_line line.now }
 {
     line.starts_with(FLOOR_MARK)
 }
 
-/// The floor that such a line says, without its LF. A line that is too long, isn't UTF-8 or has no offset
-/// within the limit behind the TAB is refused, by the first of these faults.
+/// Reads the offset in a floor line, without its LF.
+///
+/// Errors, of which the first that applies is reported: `TooLong`; `BadUtf8`; `BadFloor` if no
+/// offset within the limit follows the TAB.
 pub fn read_floor(line: &[u8]) -> Result<u64, LogFault>
     requires { is_floor_line line.now ≡ true }
     ensures { result ≡ floor_reading line.now }
@@ -40,7 +42,8 @@ pub fn read_floor(line: &[u8]) -> Result<u64, LogFault>
     }
 }
 
-/// The line of a floor, with its LF: a log that begins with it has that floor.
+/// Writes a floor line, `floor TAB offset LF`: a log that begins with it has that floor. The only
+/// error is out of memory.
 pub fn write_floor(alloc: Global, floor: u64) -> Result<Vec<u8>, AllocError>
     requires { floor ≤ OFFSET_LIMIT }
     ensures line { IfOk result (λ line. line.items ≡ floor_text floor ++ 10 ∷ []) }
@@ -50,7 +53,8 @@ pub fn write_floor(alloc: Global, floor: u64) -> Result<Vec<u8>, AllocError>
     Ok(format!(in alloc; "floor\t{floor}\n")?.into_bytes())
 }
 
-/// The lines of floors are those of the grammar, each is one line, and no other line that can be read begins so.
+/// Proves that floor lines are those of the grammar, that each is one line, and that no other line
+/// that can be read begins so.
 pub fn floors_are_of_the_grammar()
     ensures read { (line : List ℕ) (floor : ℕ) → is_floor_line line ≡ true → floor_reading line ≡ Ok floor
         → (line ≡ floor_text floor) × (floor ≤ OFFSET_LIMIT) }

@@ -15,7 +15,7 @@ use base_text::Text;
 use serde_json::Value as Json;
 use std::alloc::{AllocError, Global};
 
-/// What a record is about: the last record of each key stands.
+/// The key of a record: what the record is about. Of each key the last record counts.
 #[derive(Debug, Drop, Clone, PartialEq, Eq, PartialOrd, Ord)]
 pub enum Key {
     /// A version of a subject, from 1 to `NUMBER_LIMIT`; its value is a schema.
@@ -24,17 +24,17 @@ pub enum Key {
     Config(Option<Text>),
     /// The mode of a subject, or the global one.
     Mode(Option<Text>),
-    /// The soft delete of a subject; its value is the last version that is deleted.
+    /// The soft delete of a subject; its value is the greatest version that it covers.
     DeleteSubject(Text),
     /// No operation.
     Noop,
-    /// The id up to which ids were given away.
+    /// The id mark; its value is the highest id ever given.
     IdMark,
 }
 
 impl Key {
-    /// The JSON text that is written for the key, without spaces and with its members in a fixed
-    /// order. The only error is out of memory.
+    /// Writes the key as JSON (RFC 8259), without spaces and with its members in a fixed order. The
+    /// only error is out of memory.
     pub fn written(&self, alloc: Global) -> Result<Text, AllocError>
         ensures { IfOk result (λ text. text ≡ written_key self.now) }
     {
@@ -48,7 +48,7 @@ impl Key {
         }
     }
 
-    /// Whether its version, where it has one, is within its limits.
+    /// Returns whether its version, if it has one, is within its limits.
     pub(crate) fn is_in_limits(&self) -> bool
         ensures { IsTrue result ↔ IsInLimits self.now }
     {
@@ -59,7 +59,7 @@ impl Key {
     }
 }
 
-/// The key that a text is; `None` where it is of no kind known here.
+/// Reads the key in a text; `None` if it is of no known kind.
 pub(crate) fn key_of(alloc: Global, text: &str) -> Result<Option<Key>, AllocError>
     ensures { IfOk result (λ key. key ≡ key_of text.now) }
 {
@@ -78,7 +78,7 @@ fn key_in(alloc: Global, json: &Json) -> Result<Option<Key>, AllocError>
     }
 }
 
-/// The key of that kind; the other members don't count.
+/// Reads the key of that kind; other members are ignored.
 fn key_of_kind(alloc: Global, kind: &str, json: &Json) -> Result<Option<Key>, AllocError>
     ensures { IfOk result (λ key. key ≡ key_of_kind kind.now (view json.now)) }
 {
@@ -135,7 +135,7 @@ fn delete_subject_key(alloc: Global, json: &Json) -> Result<Option<Key>, AllocEr
     }
 }
 
-/// The subject that a level or a mode is of, `Some(None)` for the global scope; `None` where the
+/// Reads the subject that a level or a mode is of, `Some(None)` for the global scope; `None` if the
 /// member is neither absent, nor null, nor a string.
 fn scope_in(alloc: Global, json: &Json) -> Result<Option<Option<Text>>, AllocError>
     ensures { IfOk result (λ scope. scope ≡ scope_in (view json.now)) }
@@ -162,7 +162,7 @@ fn schema_key_text(alloc: Global, subject: &Text, version: u32) -> Result<Text, 
     Text::of_string(text)
 }
 
-/// The key of that kind, which has no member of its own beside its subject.
+/// Writes the key of that kind, which has no member of its own beside its subject.
 fn scope_key_text(alloc: Global, kind: &str, scope: Option<&Text>) -> Result<Text, AllocError>
     ensures { IfOk result (λ text. text ≡ codes "{\"keytype\":\"" ++ kind.now
         ++ codes "\",\"subject\":" ++ compact_text (option_map_or string (option_copied scope.entry) null) ++ codes ",\"magic\":0}") }
@@ -172,7 +172,7 @@ fn scope_key_text(alloc: Global, kind: &str, scope: Option<&Text>) -> Result<Tex
     Text::of_string(text)
 }
 
-/// The JSON text of a scope: its subject, or `null` for the global one.
+/// Writes a scope as JSON: its subject, or `null` for the global one.
 fn scope_text(alloc: Global, scope: Option<&Text>) -> Result<String, AllocError>
     ensures { IfOk result (λ text. string_bytes text ≡ compact_text (option_map_or string (option_copied scope.entry) null)) }
 {
@@ -182,7 +182,7 @@ fn scope_text(alloc: Global, scope: Option<&Text>) -> Result<String, AllocError>
     }
 }
 
-/// Two keys with one written text are one key.
+/// Proves that two keys with the same written text are the same key.
 pub fn written_keys_are_apart()
     ensures { (a b : Key) → IsOf32Bits a → IsOf32Bits b → written_key a ≡ written_key b → a ≡ b }
 {}

@@ -1,4 +1,24 @@
-//! The records of the registry's topic: their keys and values, and the lines that they stand on.
+//! The records of the registry's topic: their keys and values, and the lines that hold them.
+//!
+//! A line is `offset TAB key TAB value LF` in UTF-8: the key and the value are JSON (RFC 8259), and
+//! `null` is no value. A log is a list of lines, up to an empty line or the end of the input. Its
+//! first line may be `floor TAB offset` instead, the low-water mark of a compacted log.
+//!
+//! One idea: writing and reading are inverse. A line that was written is read back as its record,
+//! whatever follows it; a line that isn't of the grammar is refused. A key of an unknown kind is no
+//! error: its line counts as foreign.
+//!
+//! Keys are parsed here. A value stays a text ([`ValueText`]), which `reg_values` decodes.
+//!
+//! Everything is bounded: the bytes ([`LINE_LIMIT`]) and the reads ([`LINE_READS`]) of a line, and
+//! the lines of a log ([`LOG_LINES`]). [`Device`] counts the faults and reads of a reader or
+//! writer.
+//!
+//! This crate opens no file and doesn't compact (`reg_set` and `reg_compaction` do).
+//!
+//! The main contract is [`write_line`]'s clause `reads_back`; that of [`read_log`] is `read`.
+//!
+//! Tests: `record_cases` and `test_records`.
 #![tactic(auto)]
 
 mod device;

@@ -17,7 +17,7 @@ use std::alloc::{AllocError, Global};
 use std::error::Error;
 use std::fmt;
 
-/// Why a line was refused; the first fault in this order is reported.
+/// A fault of a line. Of several, the first in this order is reported.
 #[derive(Clone, Copy, Debug, PartialEq, Eq)]
 pub enum LineError {
     /// The input ends before the line's LF.
@@ -32,7 +32,7 @@ pub enum LineError {
     BadOffset,
 }
 
-/// Why no line was read.
+/// An error of reading a line.
 #[derive(Clone, Copy, Debug, PartialEq, Eq)]
 pub enum ReadLineError {
     Line(LineError),
@@ -42,7 +42,7 @@ pub enum ReadLineError {
 impl LineError {
     ghost use Rattle.reg_records.specs.Errors.{line_error_name};
 
-    /// Its name, as it is reported.
+    /// Returns the fault's name, as it is reported.
     pub fn name(self) -> &'static str
         ensures { result.now ≡ line_error_name self }
     {
@@ -108,7 +108,8 @@ impl From<AllocError> for ReadLineError {
 /// Reads the line at the front of `bytes`, up to its LF; what follows isn't looked at.
 ///
 /// The line is `offset TAB key TAB value` in UTF-8: the offset in decimal digits without a leading
-/// zero, the key and the value as JSON (RFC 8259), with `null` for no value.
+/// zero, the key and the value as JSON (RFC 8259), with `null` for no value. A key of no known kind
+/// gives [`Read::Foreign`]. Errors: the line's fault, or out of memory.
 pub fn read_line(alloc: Global, bytes: &[u8]) -> Result<Read, ReadLineError>
     ensures record { IfOk result (λ read. reading_at_front bytes.now ≡ Ok read) }
     ensures fault { IfErr result (IsFaultOf (reading_at_front bytes.now)) }
@@ -120,7 +121,7 @@ pub fn read_line(alloc: Global, bytes: &[u8]) -> Result<Read, ReadLineError>
     }
 }
 
-/// How many bytes stand before the first LF, where there is one.
+/// Returns the number of bytes before the first LF; `None` if there is no LF.
 pub fn line_len(bytes: &[u8]) -> Option<usize>
     ensures place { result ≡ position is_line_feed bytes.now }
     ensures parts { MatchOption result (HasNoLineFeed bytes.now) (λ len. (line : List ℕ) × (rest : List ℕ)
@@ -148,7 +149,7 @@ pub(crate) fn read_whole_line(alloc: Global, line: &[u8]) -> Result<Read, ReadLi
     }
 }
 
-/// The offset, the key and the value of a line without its LF.
+/// Splits a line without its LF into offset, key and value.
 fn parts_of(line: &[u8]) -> Result<(u64, &str, &str), LineError>
     ensures parts { MatchResult result
         (λ parts. reading line.now ≡ Ok (read_at parts.0 parts.1.now parts.2.now)) (λ fault. reading line.now ≡ Err fault) }
@@ -169,7 +170,7 @@ fn parts_of(line: &[u8]) -> Result<(u64, &str, &str), LineError>
     }
 }
 
-/// The text that the bytes are, if they are UTF-8.
+/// Returns the bytes as a text; `None` if they aren't UTF-8.
 pub(crate) fn text_of(line: &[u8]) -> Option<&str>
     ensures { MatchOption result (is_utf8 line.now ≡ false)
         (λ text. (is_utf8 line.now ≡ true) × (text.now ≡ line.now)) }
@@ -180,7 +181,7 @@ pub(crate) fn text_of(line: &[u8]) -> Option<&str>
     }
 }
 
-/// The three fields of a line that has exactly two TABs.
+/// Splits a line at its TABs; `None` unless there are exactly two.
 fn fields_of(text: &str) -> Option<(&str, &str, &str)>
     ensures { MatchOption result (reading_of (slice_split is_tab text.now) ≡ Err LineError.BadTabs)
         (λ fields. slice_split is_tab text.now ≡ fields.0.now ∷ fields.1.now ∷ fields.2.now ∷ []) }
@@ -194,14 +195,14 @@ fn fields_of(text: &str) -> Option<(&str, &str, &str)>
     }
 }
 
-/// Whether none of the bytes is that one.
+/// Returns whether no byte is that one.
 pub(crate) fn is_free_of(bytes: &[u8], byte: u8) -> bool
     ensures { result ≡ is_free_of (λ b. b == byte) bytes.now }
 {
     !bytes.contains(&byte)
 }
 
-/// The offset that a text spells in decimal digits, without a leading zero but for `0` itself; `None` past
+/// Parses an offset: decimal digits without a leading zero, except `0` itself. `None` past
 /// `OFFSET_LIMIT` and for any other text.
 pub fn offset_of(field: &str) -> Option<u64>
     ensures value { result ≡ offset_of field.now }
@@ -216,7 +217,7 @@ pub fn offset_of(field: &str) -> Option<u64>
     }
 }
 
-/// Whether a field is decimal digits without a leading zero, but for `0` itself.
+/// Returns whether a field is decimal digits without a leading zero, except `0` itself.
 fn is_decimal(field: &str) -> bool
     ensures { result ≡ is_decimal field.now }
 {
@@ -227,7 +228,7 @@ fn is_decimal(field: &str) -> bool
     has_only_digits(digits)
 }
 
-/// Whether each byte is an ASCII digit; so it is of no bytes.
+/// Returns whether each byte is an ASCII digit; true if there is no byte.
 pub fn has_only_digits(bytes: &[u8]) -> bool
     ensures { result ≡ list_all is_ascii_digit bytes.now }
 {
@@ -248,7 +249,8 @@ fn read_at(alloc: Global, offset: u64, key: &str, value: &str) -> Result<Read, A
     Ok(Read::Record(Record { offset, key, value }))
 }
 
-/// The lines that can be read are those of the grammar, and each is read as its fields say.
+/// Proves that the lines that can be read are those of the grammar, and that each is read as its
+/// fields say.
 pub fn lines_are_of_the_grammar()
     ensures read { (line : List ℕ) (read : Read) → reading line ≡ Ok read → Spells line read }
     ensures spelled { (line : List ℕ) (read : Read) → Spells line read → reading line ≡ Ok read }

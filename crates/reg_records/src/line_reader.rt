@@ -9,7 +9,7 @@ use crate::pieces::{LineBuffer, Piece};
 use std::alloc::{AllocError, Global};
 use std::io::{BufRead, ErrorKind};
 
-/// What comes next from a reader.
+/// What a reader has next.
 #[derive(Drop)]
 pub(crate) enum NextLine {
     /// A line with its LF.
@@ -19,8 +19,8 @@ pub(crate) enum NextLine {
     End,
 }
 
-/// Takes the next line from a reader, whose counts of reads and interruptions begin anew; a fault of
-/// the reader, or too many reads for one line, is `None`.
+/// Takes the next line from a reader, whose counts of reads and interruptions restart; `None` if
+/// the reader failed or the line took too many reads.
 pub(crate) fn take_line<R: BufRead>(
     alloc: Global,
     reader: &mut Device<R>,

@@ -8,37 +8,38 @@ use std::alloc::{AllocError, Global};
 use std::error::Error;
 use std::fmt;
 
-/// The records of a log.
+/// A log that was read: its records, its floor and its next offset.
 #[derive(Debug, Drop)]
 pub struct Log {
     /// The records of its lines, in their order.
     pub records: Vec<Record>,
-    /// How many of its lines have a key of no kind known here.
+    /// The number of its lines whose key is of no known kind.
     pub foreign: u64,
-    /// The offset that its first line says as its floor, or 0.
+    /// The offset in its floor line, or 0 if it has none.
     pub floor: u64,
-    /// The next offset: the greater of the floor and of one more than the greatest offset of its lines.
+    /// The next offset: the greater of the floor and one more than the greatest offset of its
+    /// lines.
     pub next: u64,
     pub ghost ahead: { All (λ r. r.offset < next) records.items },
     pub ghost above: { floor ≤ next },
 }
 
-/// What is wrong with a line of a log.
+/// A fault of a line of a log.
 #[derive(Clone, Copy, Debug, PartialEq, Eq)]
 pub enum LogFault {
     Line(LineError),
-    /// The first line begins with `floor` and a TAB, and what stands behind isn't an offset alone.
+    /// The first line begins with `floor TAB`, and what follows isn't an offset alone.
     BadFloor,
     /// The log has more than `LOG_LINES` lines.
     TooManyLines,
 }
 
-/// Why no log was read.
+/// An error of reading a log.
 #[derive(Clone, Copy, Debug, PartialEq, Eq)]
 pub enum LogError {
     /// The first line that has a fault; lines count from 1.
     Fault { line: u64, fault: LogFault },
-    /// The reader failed, or was asked `LINE_READS` times for one line.
+    /// The reader failed, or `LINE_READS` reads didn't complete one line; lines count from 1.
     ReadFault { line: u64 },
     OutOfMemory,
 }
@@ -47,7 +48,7 @@ impl LogFault {
     ghost use Rattle.std.specs.Prelude.{◌≡◌};
     ghost use Rattle.reg_records.specs.Errors.{log_fault_name};
 
-    /// Its name, as it is reported.
+    /// Returns the fault's name, as it is reported.
     pub fn name(self) -> &'static str
         ensures { result.now ≡ log_fault_name self }
     {
@@ -104,7 +105,7 @@ impl Log {
     ghost use Rattle.reg_records.specs.Log.{IsLogOf, offset_in};
     ghost use Rattle.reg_records.specs.LogSteps.{AddsRead};
 
-    /// A log without lines.
+    /// Makes a log without lines.
     pub(crate) fn new(alloc: Global) -> Log
         ensures { IsLogOf 0 [] result }
     {
@@ -125,7 +126,7 @@ impl Log {
         self.floor = floor;
     }
 
-    /// Adds what a line says.
+    /// Adds a line that was read.
     pub(crate) fn add(&mut self, read: Read) -> Result<(), AllocError>
         requires counted { self.old.foreign ≤ LOG_LINES }
         requires within { offset_in read ≤ OFFSET_LIMIT }

@@ -18,11 +18,12 @@ use crate::record::Read;
 use std::alloc::Global;
 use std::io::BufRead;
 
-/// Reads the log at the front of `reader`: lines up to an empty line or the end of the input, of which
-/// the first may say the log's floor. What stands after the empty line is left unread.
+/// Reads the log at the front of `reader`: lines up to an empty line or the end of the input, of
+/// which the first may be a floor line. What follows the empty line stays unread.
 ///
-/// A line past its limit is read to its LF, its bytes dropped, before its fault is reported. The count of
-/// reads begins anew at each line.
+/// A line past its limit is read to its LF, its bytes dropped, before its fault is reported. The
+/// count of reads restarts at each line. Errors: the first line with a fault, a fault of the
+/// reader, or out of memory.
 pub fn read_log<R: BufRead>(alloc: Global, reader: &mut Device<R>) -> Result<Log, LogError>
     ensures read { IfOk result (λ log. IfSome (bytes_in R.remaining reader.old) (λ text. (found : LogText)
         × (log_of text ≡ Ok found) × IsLogOf found.floor found.reads log × (bytes_in R.remaining reader.new ≡ Some found.rest))) }
@@ -44,7 +45,7 @@ pub fn read_log<R: BufRead>(alloc: Global, reader: &mut Device<R>) -> Result<Log
     Ok(log)
 }
 
-/// Reads the first line into a log without lines, and tells whether the log goes on.
+/// Reads the first line into a log without lines, and returns whether the log goes on.
 fn read_first<R: BufRead>(
     alloc: Global,
     reader: &mut Device<R>,
@@ -68,7 +69,7 @@ fn read_first<R: BufRead>(
     Ok(true)
 }
 
-/// Reads the line of that number into the log, and tells whether the log goes on.
+/// Reads the line of that number into the log, and returns whether the log goes on.
 fn read_next<R: BufRead>(
     alloc: Global,
     reader: &mut Device<R>,
@@ -124,7 +125,7 @@ fn take_numbered<R: BufRead>(
     Ok(Some(line))
 }
 
-/// Begins a log with what its first line says, which may be its floor.
+/// Begins a log with its first line, which may be a floor line.
 fn begin(alloc: Global, line: &LineBuffer, log: &mut Log) -> Result<(), LogError>
     requires { IsLogOf 0 [] log.old }
     ensures said { (bytes : List ℕ) → Holds line.now bytes → OnOk result (BeginsLog bytes log.new) }
@@ -138,7 +139,7 @@ fn begin(alloc: Global, line: &LineBuffer, log: &mut Log) -> Result<(), LogError
     Ok(())
 }
 
-/// What a line says that begins as a floor's does; one that is too long is `None`.
+/// Reads a floor line; `None` for any other line, and for one that is too long.
 fn floor_of(line: &LineBuffer) -> Option<Result<u64, LogFault>>
     ensures { (bytes : List ℕ) → Holds line.now bytes → MatchOption result
         (is_floor_line bytes ≡ true → LINE_LIMIT < length bytes)
@@ -150,7 +151,7 @@ fn floor_of(line: &LineBuffer) -> Option<Result<u64, LogFault>>
     }
 }
 
-/// What the line of that number says.
+/// Reads the record in the line of that number.
 fn read_numbered(alloc: Global, number: u64, line: &LineBuffer) -> Result<Read, LogError>
     ensures read { (bytes : List ℕ) → Holds line.now bytes → IfOk result (λ read. (number ≤ LOG_LINES) × (reading bytes ≡ Ok read)) }
     ensures within { IfOk result (λ read. offset_in read ≤ OFFSET_LIMIT) }
@@ -167,7 +168,7 @@ fn read_numbered(alloc: Global, number: u64, line: &LineBuffer) -> Result<Read, 
     }
 }
 
-/// What a line that was taken says.
+/// Reads the record in a line that was taken.
 fn read_taken(alloc: Global, line: &LineBuffer) -> Result<Read, ReadLineError>
     ensures record { (bytes : List ℕ) → Holds line.now bytes → IfOk result (λ read. reading bytes ≡ Ok read) }
     ensures fault { (bytes : List ℕ) → Holds line.now bytes → IfErr result (IsFaultOf (reading bytes)) }
@@ -179,7 +180,7 @@ fn read_taken(alloc: Global, line: &LineBuffer) -> Result<Read, ReadLineError>
     }
 }
 
-/// The fault of a line, unless the log has more lines than it may.
+/// Returns the fault of a line, or `TooManyLines` if its number is past the limit.
 fn fault_at(number: u64, fault: LineError) -> LogError
     ensures { result ≡ LogError.Fault number (if nat_lt LOG_LINES number then LogFault.TooManyLines else LogFault.Line fault) }
 {

@@ -13,7 +13,7 @@ use json::Writer;
 use serde_json::Value as Json;
 use std::alloc::{AllocError, Global};
 
-/// The JSON value that a text is; `None` where it isn't JSON.
+/// Parses a JSON text (RFC 8259); `None` if it isn't JSON. The only error is out of memory.
 pub fn parse(alloc: Global, text: &str) -> Result<Option<Json>, AllocError>
     ensures { IfOk result (λ found. option_map view found ≡ read text.now) }
 {
@@ -28,14 +28,15 @@ pub fn parse(alloc: Global, text: &str) -> Result<Option<Json>, AllocError>
     }
 }
 
-/// The text of the member of that name, if it is a string.
+/// Returns the member of that name if it is a string.
 pub fn text_at<'a>(json: &'a Json, name: &str) -> Option<&'a str>
     ensures { option_map (λ text. text.now) result ≡ text_at name.now (view json.now) }
 {
     json.get(name).and_then(Json::as_str)
 }
 
-/// The member of that name, if it is a whole number that a version or an id may be.
+/// Returns the member of that name if it is a version or an id: a whole number from 1 to
+/// `NUMBER_LIMIT`.
 pub fn number_at(json: &Json, name: &str) -> Option<u32>
     ensures { result ≡ number_at name.now (view json.now) }
 {
@@ -47,7 +48,7 @@ pub fn number_at(json: &Json, name: &str) -> Option<u32>
     }
 }
 
-/// Whether the member of that name is that string.
+/// Returns whether the member of that name is that string.
 pub fn has_text_at(json: &Json, name: &str, text: &str) -> bool
     ensures { result ≡ has_text_at name.now text.now (view json.now) }
 {
@@ -57,7 +58,7 @@ pub fn has_text_at(json: &Json, name: &str, text: &str) -> bool
     }
 }
 
-/// Whether the member of that name is that number.
+/// Returns whether the member of that name is that version or id.
 pub fn has_number_at(json: &Json, name: &str, number: u32) -> bool
     ensures { result ≡ has_number_at name.now number (view json.now) }
 {
@@ -67,7 +68,8 @@ pub fn has_number_at(json: &Json, name: &str, number: u32) -> bool
     }
 }
 
-/// The JSON string of a text, between its quotes (RFC 8259, section 7). The only error is out of memory.
+/// Writes a text as a JSON string, with its quotes (RFC 8259, section 7). The only error is out of
+/// memory.
 pub fn quoted(alloc: Global, text: &str) -> Result<String, AllocError>
     ensures { IfOk result (λ written. string_bytes written ≡ quoted text.now) }
 {
@@ -79,7 +81,7 @@ pub fn quoted(alloc: Global, text: &str) -> Result<String, AllocError>
     }
 }
 
-/// Data that is written without spaces is read again, as its outline has it.
+/// Proves that JSON data that is written without spaces is read back, as its outline has it.
 pub fn compact_texts_read_back()
     ensures { (d : Data) → HasNumbers (outline d) → depth (outline d) ≤ max_depth → read (compact_text d) ≡ of_json (outline d) }
 {}

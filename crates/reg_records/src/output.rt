@@ -1,10 +1,11 @@
 // Writers whose answers contracts name.
 use std::io::{self, Write};
 
-/// A writer whose answers contracts name, as any writer is.
+/// A writer whose answers contracts can name; each `Write` is one.
 ///
-/// What a call may answer is a relation that a function over any `W: Output` knows nothing of. So where
-/// its contract speaks of an answer, it can neither leave out the call nor make the answer up.
+/// Which answer a call gives is a relation of which a function over any `W: Output` knows nothing.
+/// So if its contract mentions an answer, the function can neither skip the call nor make the
+/// answer up.
 pub trait Output: Write {
     ghost use Rattle.std.specs.Prelude.{List, Result, ⊤, ℕ};
     ghost use Rattle.std.specs.Io.{WritesAtMost};
@@ -17,13 +18,13 @@ pub trait Output: Write {
     /// The writer before, what the flush answered, and the writer after.
     ghost flushes: { Self → Result ⊤ Error → Self → Type 0 };
 
-    /// Writes a front of `buf`, as `write` does, and says how many bytes.
+    /// Writes a prefix of `buf`, like `write`, and returns its number of bytes.
     fn write_out(&mut self, buf: &[u8]) -> io::Result<usize>
         ensures bound { WritesAtMost result buf.now }
         ensures bytes { WriteAppends (Self.contents self.old) (Self.contents self.new) result buf.now }
         ensures answer { writes self.old buf.now result self.new };
 
-    /// Hands on what was written, as `flush` does.
+    /// Flushes what was written, like `flush`.
     fn flush_out(&mut self) -> io::Result<()>
         ensures bytes { Keeps (Self.contents self.old) (Self.contents self.new) }
         ensures answer { flushes self.old result self.new };

@@ -41,7 +41,7 @@ impl LineBuffer {
         self.bytes.extend_from_slice(piece)
     }
 
-    /// The bytes of the line; `None` where they are more than a line may have.
+    /// Returns the bytes of the line; `None` if they are more than a line may have.
     pub(crate) fn within_limit(&self) -> Option<&[u8]>
         ensures { (line : List ℕ) → Holds self.now line
             → MatchOption result (LINE_LIMIT < length line) (λ bytes. bytes.now ≡ line) }
@@ -53,7 +53,8 @@ impl LineBuffer {
         }
     }
 
-    /// The same, where the line isn't needed any more.
+    /// Returns the bytes of the line and gives up the buffer; `None` if they are more than a line
+    /// may have.
     pub(crate) fn into_bytes(self) -> Option<Vec<u8>>
         ensures { (line : List ℕ) → Holds self line
             → MatchOption result (LINE_LIMIT < length line) (λ bytes. bytes.items ≡ line) }
@@ -69,16 +70,16 @@ impl LineBuffer {
     }
 }
 
-/// What one read gave.
+/// The outcome of one read of a line.
 #[derive(Clone, Copy)]
 pub(crate) enum Piece {
-    /// The rest of the line, and its LF: so many bytes.
+    /// The rest of the line with its LF, by its number of bytes.
     Ended(usize),
-    /// So many bytes of the line.
+    /// Bytes of the line without its LF, by their number.
     More(usize),
     /// The end of the input.
     NoMore,
-    /// Nothing, for an error of that kind.
+    /// An error of that kind, and no bytes.
     Failed(ErrorKind),
 }
 

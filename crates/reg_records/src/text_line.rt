@@ -14,12 +14,12 @@ use base_text::Text;
 use std::alloc::{AllocError, Global};
 use std::io::BufRead;
 
-/// Why no line of text was read.
+/// An error of reading a line of text.
 #[derive(Clone, Copy, Debug, PartialEq, Eq)]
 pub enum TextLineError {
-    /// What is wrong with the line: `Truncated`, `TooLong` or `BadUtf8`.
+    /// The line's fault: `Truncated`, `TooLong` or `BadUtf8`.
     Line(LineError),
-    /// The reader failed, or was asked `LINE_READS` times for the line.
+    /// The reader failed, or `LINE_READS` reads didn't complete the line.
     ReadFault,
     OutOfMemory,
 }
@@ -34,11 +34,11 @@ impl From<AllocError> for TextLineError {
     }
 }
 
-/// Reads the line at the front of `reader`, a UTF-8 text of at most `LINE_LIMIT` bytes before its LF.
-/// What stands after the LF is left unread.
+/// Reads the line at the front of `reader`, a UTF-8 text of at most `LINE_LIMIT` bytes before its
+/// LF. What follows the LF stays unread.
 ///
-/// A line past its limit is read to its LF, its bytes dropped, before its fault is reported. The count of
-/// reads begins anew.
+/// A line past its limit is read to its LF, its bytes dropped, before its fault is reported. The
+/// count of reads restarts.
 pub fn read_text_line<R: BufRead>(
     alloc: Global,
     reader: &mut Device<R>,
@@ -65,7 +65,7 @@ pub fn read_text_line<R: BufRead>(
     }
 }
 
-/// The text in a line that was taken.
+/// Returns the text in a line that was taken.
 fn string_in(line: LineBuffer) -> Result<String, LineError>
     ensures { (bytes : List ℕ) → Holds line bytes
         → MatchResult result
@@ -77,7 +77,7 @@ fn string_in(line: LineBuffer) -> Result<String, LineError>
     }
 }
 
-/// The text that the bytes are.
+/// Returns the bytes as a text.
 fn string_of(bytes: Vec<u8>) -> Result<String, LineError>
     ensures { MatchResult result
         (λ string. text_in bytes.items ≡ Ok (string_bytes string)) (λ fault. text_in bytes.items ≡ Err fault) }

@@ -14,11 +14,10 @@ use crate::value_text::ValueText;
 use base_text::Text;
 use std::alloc::{AllocError, Global};
 
-/// What a record's value says of its key.
+/// The value of a record: what it says of its key.
 #[derive(Clone, Debug, Drop, PartialEq, Eq)]
 pub enum Value {
-    /// The schema of a version, as its text stands in the record, with its id from 1 to
-    /// `NUMBER_LIMIT`.
+    /// The schema of a version, as the record has its text, with its id from 1 to `NUMBER_LIMIT`.
     Schema {
         subject: Text,
         version: u32,
@@ -26,26 +25,25 @@ pub enum Value {
         schema: Text,
         deleted: bool,
     },
-    /// The name of a compatibility level, as it stands in the record, whatever the case of its
-    /// letters.
+    /// The name of a compatibility level, as the record has it, in any case of its letters.
     Config(Text),
-    /// The name of a mode, as it stands in the record.
+    /// The name of a mode, as the record has it.
     Mode(Text),
-    /// The subject is soft-deleted up to this version, from 1 to `NUMBER_LIMIT`.
+    /// The soft delete of a subject up to this version, from 1 to `NUMBER_LIMIT`.
     DeleteSubject {
         subject: Text,
         version: u32,
     },
-    /// Nothing.
+    /// No operation.
     Noop,
-    /// Ids were given away up to this one, from 1 to `NUMBER_LIMIT`.
+    /// The id mark: the highest id ever given, from 1 to `NUMBER_LIMIT`.
     IdMark(u32),
 }
 
 impl Value {
-    /// The JSON text that is written for the value, without spaces and with its members in a fixed
-    /// order; `None` for no operation, which is written without a value. It brings the value along. The
-    /// only error is out of memory.
+    /// Writes the value as JSON (RFC 8259), without spaces and with its members in a fixed order;
+    /// `None` for no operation, which has no text. The text brings the value along. The only error
+    /// is out of memory.
     pub fn written(&self, alloc: Global) -> Result<Option<ValueText>, AllocError>
         ensures { IfOk result (λ text. text ≡ written_value self.now) }
     {
@@ -100,7 +98,7 @@ fn schema_value_text(
     )
 }
 
-/// The object of a version's value, whose subject and schema are written already.
+/// Writes the object of a version's value from its subject and its schema as JSON strings.
 fn schema_value_object(
     alloc: Global,
     subject: &str,
@@ -118,7 +116,7 @@ fn schema_value_object(
     )
 }
 
-/// The object whose only member is that text.
+/// Writes the object whose only member is that text.
 fn member_text(alloc: Global, name: &str, text: &Text) -> Result<String, AllocError>
     ensures { IfOk result (λ object. string_bytes object ≡ codes "{\"" ++ name.now ++ codes "\":" ++ quoted text.now ++ codes "}") }
 {
@@ -143,7 +141,7 @@ fn id_mark_value_text(alloc: Global, id: u32) -> Result<String, AllocError>
     format!(in alloc; "{{\"id\":{id}}}")
 }
 
-/// A record whose value was written has a line, where its numbers are within their limits.
+/// Proves that a record whose value was written has a line, if its numbers are within their limits.
 pub fn values_have_lines()
     ensures { (offset : ℕ) (k : Key) (v : Value) → offset ≤ OFFSET_LIMIT → IsInLimits k → HasNumbersInLimits v
         → HasLine (record { offset = offset; key = k; value = written_value v }) }

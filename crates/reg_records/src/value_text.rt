@@ -23,9 +23,9 @@ enum Brought {
 
 /// The text of a record's value. Contracts see its bytes.
 ///
-/// It may bring along the value that it was written for, so that who takes the record in need not read
-/// the text again, or the text of its schema, so that all who read the record share that one, in place
-/// of a copy each.
+/// It may bring along the value that it was written for, so that a reader of the record needn't
+/// parse the text again. Or it may bring the text of its schema, so that all readers of the record
+/// share that text instead of copying it.
 #[derive(Debug)]
 pub struct ValueText {
     text: Text,
@@ -44,7 +44,7 @@ impl Model for ValueText {
 }
 
 impl ValueText {
-    /// The text that was written for that value. The only error is out of memory.
+    /// Makes the text that was written for that value. The only error is out of memory.
     pub(crate) fn of_value(text: String, value: &Value) -> Result<ValueText, AllocError>
         requires { written_value value.now ≡ Some (string_bytes text) }
         ensures { IfOk result (λ written. written ≡ string_bytes text) }
@@ -55,8 +55,8 @@ impl ValueText {
         })
     }
 
-    /// The same text, which brings that text of its schema along, unless it brings its value. The only
-    /// error is out of memory.
+    /// Returns the same text, which brings that text of its schema along, unless it brings a value.
+    /// The only error is out of memory.
     pub fn bringing(&self, schema: &Text) -> Result<ValueText, AllocError>
         ensures { IfOk result (λ text. text ≡ self.now) }
     {
@@ -69,7 +69,7 @@ impl ValueText {
         })
     }
 
-    /// The value that the text was written for, where it brings it.
+    /// Returns the value that the text was written for, if it brings one.
     pub fn value(&self) -> Option<&Value>
         ensures { IfSome result (λ value. written_value value.now ≡ Some self.now) }
     {
@@ -79,15 +79,15 @@ impl ValueText {
         }
     }
 
-    /// The text itself.
+    /// Returns the text.
     pub fn as_str(&self) -> &str
         ensures { result.now ≡ self.now }
     {
         self.text.as_str()
     }
 
-    /// The text of the schema that was read in this one: what was brought along, if it is that text,
-    /// and else a copy. The only error is out of memory.
+    /// Returns the text of the schema that was read in this one: the one that it brings, if the two
+    /// are equal, else a copy. The only error is out of memory.
     pub fn share(&self, alloc: Global, schema: &str) -> Result<Text, AllocError>
         ensures { IfOk result (λ text. text ≡ schema.now) }
     {

@@ -13,10 +13,10 @@ use std::alloc::{AllocError, Global};
 use std::error::Error;
 use std::fmt;
 
-/// Why no line was written.
+/// An error of writing a line.
 #[derive(Clone, Copy, Debug, PartialEq, Eq)]
 pub enum WriteLineError {
-    /// More than `LINE_LIMIT` bytes would stand before the LF.
+    /// The line would have more than `LINE_LIMIT` bytes before its LF.
     TooLong,
     OutOfMemory,
 }
@@ -47,17 +47,19 @@ impl From<AllocError> for WriteLineError {
     }
 }
 
-/// Whether a record can be written as a line: its offset and its version are within their limits,
-/// and its value holds no TAB and no LF and isn't the text `null`.
+/// Returns whether a record can be written as a line: its offset and its version are within their
+/// limits, and its value has no TAB and no LF and isn't the text `null`.
 pub fn has_line(given: &Record) -> bool
     ensures { IsTrue result ↔ HasLine given.now }
 {
     given.offset <= OFFSET_LIMIT && given.key.is_in_limits() && has_value_field(&given.value)
 }
 
-/// The line of a record, with its LF: `read_line` gives the record back, whatever follows the line.
+/// Writes the line of a record, with its LF; `read_line` gives the record back, whatever follows
+/// the line.
 ///
 /// The key is JSON (RFC 8259) without spaces, its members in a fixed order; no value is `null`.
+/// Errors: `TooLong`, or out of memory.
 pub fn write_line(alloc: Global, given: &Record) -> Result<Vec<u8>, WriteLineError>
     requires { HasLine given.now }
     ensures line { IfOk result (λ line. line.items ≡ line_text given.now ++ 10 ∷ []) }
@@ -81,7 +83,7 @@ fn line_text(alloc: Global, given: &Record) -> Result<String, AllocError>
     joined(alloc, given.offset, key.as_str(), value_field(&given.value))
 }
 
-/// The text of a value, or `null` where there is none.
+/// Returns the text of a value, or `null` if there is none.
 fn value_field(value: &Option<ValueText>) -> &str
     ensures { result.now ≡ unwrap_or value.now (codes "null") }
 {

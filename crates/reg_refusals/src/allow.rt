@@ -2,7 +2,7 @@
 ghost use Rattle.std.specs.Prelude.{◌≡◌};
 ghost use Rattle.reg_refusals.specs.Allow.{allow_text};
 
-/// The methods that a path offers (RFC 9110, section 10.2.1).
+/// The methods that a path supports (RFC 9110, section 10.2.1).
 #[derive(Clone, Copy, Debug, PartialEq, Eq)]
 pub enum Allow {
     Get,
@@ -15,7 +15,7 @@ pub enum Allow {
 }
 
 impl Allow {
-    /// The methods, as the field `Allow` lists them.
+    /// Returns the methods as the value of the field `Allow`.
     pub fn as_str(self) -> &'static str
         ensures { result.now ≡ allow_text self }
     {

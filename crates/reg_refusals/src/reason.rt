@@ -2,7 +2,7 @@
 ghost use Rattle.std.specs.Prelude.{◌≡◌};
 ghost use Rattle.reg_refusals.specs.Reason.{lack_text, reason_text, store_code};
 
-/// Why an operation isn't permitted.
+/// The reason why an operation isn't permitted.
 #[derive(Clone, Copy, Debug, PartialEq, Eq)]
 pub enum Reason {
     /// The mode in force is READONLY.
@@ -17,17 +17,17 @@ pub enum Reason {
     VersionIsOccupied,
     /// IMPORT is set without force, and the scope has a live version.
     ScopeIsNotEmpty,
-    /// The id that is given is not an id.
+    /// The id that is given isn't a valid id.
     InvalidId,
     /// A version is given without an id.
     VersionNeedsImport,
-    /// No version has the id that is given, and it is at or below the mark of ids: it may have been
-    /// another schema's.
+    /// No version has the id that is given, and it isn't above the id mark, the highest id ever
+    /// given: it may have been another schema's.
     IdIsNotAboveMark,
 }
 
 impl Reason {
-    /// The reason, as it ends the message.
+    /// Returns the reason as it ends the message.
     pub fn as_str(self) -> &'static str
         ensures { result.now ≡ reason_text self }
     {
@@ -45,7 +45,7 @@ impl Reason {
     }
 }
 
-/// What the registry lacked, or has too much of.
+/// A fault of the registry or of its store.
 #[derive(Clone, Copy, Debug, PartialEq, Eq)]
 pub enum StoreFault {
     /// Memory was refused.
@@ -56,16 +56,17 @@ pub enum StoreFault {
     TwoSchemas,
     /// The next offset, id or version would be past its limit.
     NumbersUsedUp,
-    /// The records that were decided aren't published yet, or it isn't known whether they stand in the log.
+    /// The decided records aren't published yet, or it isn't known whether they are in the log.
     Unsettled,
-    /// Others wrote to the log first, each time that the command was decided.
+    /// Other processes wrote to the log first, each time that the command was decided.
     Overtaken,
-    /// The store that has the log declined what was decided, or can't be reached.
+    /// The store that has the log declined the decided records, or can't be reached.
     Declined,
 }
 
 impl StoreFault {
-    /// The code that the answer's body names: 503 and two more digits where trying again later may help.
+    /// Returns the code in the response's body: 503 with two more digits if trying again later may
+    /// help, else 50001.
     pub fn code(self) -> u32
         ensures { result ≡ store_code self }
     {
@@ -80,7 +81,7 @@ impl StoreFault {
         }
     }
 
-    /// The fault, as it ends the message.
+    /// Returns the fault as it ends the message.
     pub fn as_str(self) -> &'static str
         ensures { result.now ≡ lack_text self }
     {

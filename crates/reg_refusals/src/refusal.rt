@@ -10,28 +10,28 @@ use std::alloc::{AllocError, AllocFailed};
 use std::error::Error;
 use std::fmt;
 
-/// Why a request is refused: its code, and the reason where a code has several.
+/// A refusal of a request: its code, and its reason if the code has several.
 #[derive(Debug, Drop, PartialEq, Eq)]
 pub enum Refusal {
-    /// The request has a form that no registry answers.
+    /// The request has a form that the registry doesn't answer.
     BadRequest,
     /// The registry has no such route.
     NotFound,
-    /// The path doesn't offer the method, but these.
+    /// The path doesn't support the method, but it supports these.
     MethodNotAllowed(Allow),
-    /// A request with a body tells no length, or is sent in chunks.
+    /// The request has a body without a length, or a chunked one.
     LengthRequired,
     /// The request's body is longer than the limit.
     PayloadTooLarge,
-    /// The request's body has a type that isn't read.
+    /// The request's body has a media type that isn't supported.
     UnsupportedMediaType,
-    /// The request's head is longer, or has more lines, than the limit.
+    /// The request's head has more bytes or more lines than the limit.
     HeadTooLarge,
-    /// No version of the subject counts.
+    /// The subject has no version that counts for the request.
     SubjectNotFound,
-    /// The subject's version isn't there, or doesn't count.
+    /// The subject has no such version, or it doesn't count for the request.
     VersionNotFound,
-    /// No entry has the id, or the schema.
+    /// No entry, a version in the registry, has the id or the schema.
     SchemaNotFound,
     /// All versions of the subject are soft-deleted already.
     SubjectSoftDeleted,
@@ -45,27 +45,27 @@ pub enum Refusal {
     SubjectHasNoLevel,
     /// The subject has no mode of its own.
     SubjectHasNoMode,
-    /// The schema doesn't meet the level in force; the whole message.
+    /// The schema doesn't meet the level in force; this is the whole message.
     Incompatible(Text),
-    /// The text is no schema's, or a default of it is invalid.
+    /// The text isn't a schema, or one of its defaults is invalid.
     InvalidSchema,
-    /// The version in the path is not a version.
+    /// The version in the path isn't a valid version.
     InvalidVersion,
-    /// The name is no level's.
+    /// The name isn't that of a compatibility level.
     InvalidLevel,
-    /// The name is no mode's.
+    /// The name isn't that of a mode.
     InvalidMode,
     /// The operation isn't permitted.
     NotPermitted(Reason),
     /// The node reads a log that another process writes, and takes no commands.
     FollowsLog,
-    /// The registry's own fault.
+    /// The registry or its store has a fault.
     Store(StoreFault),
 }
 
 impl Refusal {
-    /// The code that the answer's body names: an HTTP status of three digits (RFC 9110), or one with
-    /// two more digits, as the Schema Registry API has them.
+    /// Returns the code in the response's body: an HTTP status of three digits (RFC 9110), or one
+    /// with two more digits, as in the Confluent Schema Registry API.
     pub fn code(&self) -> u32
         ensures { result ≡ code_of self.now }
     {
@@ -97,7 +97,7 @@ impl Refusal {
         }
     }
 
-    /// The HTTP status (RFC 9110): the first three digits of the code.
+    /// Returns the HTTP status (RFC 9110): the first three digits of the code.
     pub fn status(&self) -> u16
         ensures { result ≡ status_of self.now }
     {
@@ -129,7 +129,7 @@ impl Refusal {
         }
     }
 
-    /// Where the code has several reasons, this one: what the message has after its colon.
+    /// Returns the reason, which follows the colon in the message, if the code has several.
     pub fn reason(&self) -> Option<&str>
         ensures { option_copied result ≡ reason_of self.now }
     {
@@ -140,7 +140,7 @@ impl Refusal {
         }
     }
 
-    /// The message that the answer's body has.
+    /// Returns the message in the response's body.
     pub fn message(&self) -> &str
         ensures { result.now ≡ message_of self.now }
     {

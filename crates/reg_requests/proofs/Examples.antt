@@ -1,7 +1,6 @@
 -- What the definitions give for some requests.
 use Rattle.std.proofs.Common.{◌≡◌, ◌∷◌, [], List, ℕ, true, false, Some, refl, codes}
 use Rattle.std.specs.Str.{is_utf8, chars}
-use Rattle.httparse.specs.Grammar.{trim_ows}
 use lib.Utf8.{encode}
 use Rattle.matchit.proofs.OnLiterals.{matchit_on_literals}
 use Rattle.form_urlencoded.proofs.OnLiterals.{form_urlencoded_on_literals}
@@ -16,19 +15,8 @@ use Rattle.reg_routes.specs.Router.{path_rows, route_of}
 use Rattle.reg_requests.specs.Asked.{asked_of}
 use Rattle.reg_requests.specs.Body.{body_of}
 use Rattle.reg_requests.specs.declared.asked.Asked.TheVariants as asked
-use Rattle.reg_requests.specs.Types.{is_accepted}
 use Rattle.reg_messages.specs.declared.request.Request.{Request}
 
--- types
-a_type_with_parameters : is_accepted (codes "Application/JSON ; charset=utf-8") ≡ true
-unfolding trim_ows
-a_type_with_parameters = refl
-
-an_empty_type : is_accepted [] ≡ false
-unfolding trim_ows
-an_empty_type = refl
-
--- requests
 request : List ℕ → List ℕ → List ℕ → Request
 request method target body = record {
   method = method;

@@ -1,4 +1,4 @@
-mod Endpoints
+pub mod Endpoints
 mod Examples
 mod Texts
 pub use Rattle.reg_messages.proofs as reg_messages_proofs

@@ -2,7 +2,6 @@ pub mod Action
 pub mod Asked
 pub mod Body
 pub mod Seen
-pub mod Types
 pub use Rattle.reg_leader.specs.avro_schema
 pub use Rattle.reg_leader.specs.reg_fold
 pub use Rattle.reg_leader.specs as reg_leader

@@ -16,15 +16,15 @@ use reg_routes::{Action, has_switch};
 use serde_json::Value;
 use std::alloc::{AllocError, Global};
 
-/// What the parts of a path, the query and the body say to an action.
+/// The input of an action: the parts of the path, the query and the body.
 #[derive(Clone, Copy)]
 pub(crate) struct Given<'g> {
     pub(crate) alloc: Global,
-    /// Where the path has one.
+    /// The subject, if the path has one.
     pub(crate) subject: Option<&'g str>,
-    /// The part that is an id; empty where the path has none.
+    /// The part of the path that is an id; empty if it has none.
     pub(crate) id: &'g str,
-    /// Where the path has one.
+    /// The version, if the path has one.
     pub(crate) version: Option<VersionRef>,
     pub(crate) query: &'g [u8],
     pub(crate) object: &'g Value,
@@ -77,7 +77,7 @@ impl Given<'_> {
     }
 }
 
-/// The version that a part of a path names.
+/// Returns the version that a part of a path names: `latest`, `-1` or a number.
 pub(crate) fn version_of(text: &str) -> Option<VersionRef>
     ensures { result ≡ version_of text.now }
 {
@@ -90,7 +90,7 @@ pub(crate) fn version_of(text: &str) -> Option<VersionRef>
     }
 }
 
-/// The number that 1 to 10 digits spell, within the limit of versions and ids.
+/// Returns the number that 1 to 10 digits spell; `None` if it is 0 or above `NUMBER_LIMIT`.
 fn number_of(text: &str) -> Option<u32>
     ensures { result ≡ number_of text.now }
 {
@@ -106,7 +106,7 @@ fn number_of(text: &str) -> Option<u32>
     }
 }
 
-/// What an action asks.
+/// Returns what an action asks, or its refusal.
 pub(crate) fn action_asks(action: Action, given: &Given<'_>) -> Found<Asked>
     ensures { IfOk result (λ asked. asked ≡ action_asks action (seen given.now)) }
 {

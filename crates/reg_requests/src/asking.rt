@@ -10,35 +10,35 @@ ghost use Rattle.reg_requests.specs.Asked.{asked_of, asked_of_target, asked_of_r
 use crate::action::{Given, action_asks, version_of};
 use crate::asked::Asked;
 use crate::body;
-use crate::types::has_accepted_types;
-use http::Method;
-use reg_leader::base_text::Text;
 use reg_leader::reg_fold::VersionRef;
 use reg_leader::reg_refusals::Refusal;
-use reg_messages::{Request, told_length};
-use reg_routes::{Action, Endpoint, Paths, Route, is_path, path_of, query_of, text_part};
+use reg_messages::{LendsParts, Request, RequestParts, told_length};
+use reg_routes::{Action, Endpoint, PathPart, Paths, Route, is_path, path_of, query_of, text_part};
 use serde_json::Value;
 use std::alloc::{AllocError, Global};
 
-/// What a request asks, or the refusal of the first test that it fails, by a router that was made before. The only error is out of memory.
+/// Returns what a request asks, or the refusal of the first test that it fails. `paths` is the
+/// router, made before. The only error is out of memory.
 #[tactic(auto, unfolding(crate::specs::Asked::asked_of))]
 pub fn route_request(alloc: Global, paths: &Paths, request: &Request) -> Result<Asked, AllocError>
     ensures { IfOk result (λ asked. asked ≡ asked_of request.now) }
 {
     match told_length(request.fields.as_slice()) {
         Ok(told) => {
-            let endpoint = paths.endpoint(request.method.as_str(), request.target.as_str());
-            route_told(alloc, endpoint, request, told)
+            let parts = request.parts();
+            let endpoint = paths.endpoint(parts.method(), parts.target());
+            route_told(alloc, endpoint, &parts, told)
         }
         Err(refusal) => Ok(closing(refusal)),
     }
 }
 
-/// The same, where it was looked up before where the request goes, and the length that the fields state was read and isn't refused.
+/// Returns what a request asks, if its endpoint and the length that its fields state are known.
+/// Otherwise as [`route_request`].
 pub fn route_told(
     alloc: Global,
     endpoint: Endpoint,
-    request: &Request,
+    request: &RequestParts<'_>,
     told: Option<u64>,
 ) -> Result<Asked, AllocError>
     requires { endpoint ≡ endpoint_of request.now.method request.now.target }
@@ -46,11 +46,11 @@ pub fn route_told(
 {
     match endpoint.route {
         Some(route) => asked_of_route(alloc, request, told, route, endpoint.action),
-        None => Ok(no_path(request.target.as_str())),
+        None => Ok(no_path(request.target())),
     }
 }
 
-/// The refusal of a target that names no path of the registry.
+/// Refuses a target that names no path of the registry.
 fn no_path(target: &str) -> Asked
     ensures { result ≡ (if is_path target.now then closing refusals.NotFound else closing refusals.BadRequest) }
 {
@@ -61,7 +61,7 @@ fn no_path(target: &str) -> Asked
     }
 }
 
-/// A refusal after which the server closes the connection.
+/// Makes a refusal after which the server closes the connection.
 fn closing(refusal: Refusal) -> Asked
     ensures { result ≡ closing refusal }
 {
@@ -71,7 +71,7 @@ fn closing(refusal: Refusal) -> Asked
     }
 }
 
-/// A refusal after which the connection stays open.
+/// Makes a refusal after which the connection stays open.
 fn open_refusal(refusal: Refusal) -> Asked
     ensures { result ≡ open_refusal refusal }
 {
@@ -81,10 +81,10 @@ fn open_refusal(refusal: Refusal) -> Asked
     }
 }
 
-/// The path offers the method.
+/// Tests that the path offers the method, and goes on.
 fn asked_of_route(
     alloc: Global,
-    request: &Request,
+    request: &RequestParts<'_>,
     told: Option<u64>,
     route: Route,
     action: Option<Action>,
@@ -98,41 +98,41 @@ fn asked_of_route(
     }
 }
 
-/// Where the method takes a body, its length is stated and its type is accepted.
+/// Tests that a length is stated and the type is accepted if the method takes a body, and goes on.
 fn asked_of_action(
     alloc: Global,
-    request: &Request,
+    request: &RequestParts<'_>,
     told: Option<u64>,
     route: Route,
     action: Action,
 ) -> Result<Asked, AllocError>
     ensures { IfOk result (λ asked. asked ≡ asked_of_action request.now told route action) }
 {
-    if takes_body(&request.method) && told.is_none() {
+    if takes_body(request.method()) && told.is_none() {
         return Ok(closing(Refusal::LengthRequired));
     }
-    if takes_body(&request.method) && !has_accepted_types(request.fields.as_slice()) {
+    if takes_body(request.method()) && !request.is_accepted() {
         return Ok(closing(Refusal::UnsupportedMediaType));
     }
     asked_of_parts(alloc, request, route, action)
 }
 
-fn takes_body(method: &Method) -> bool
+fn takes_body(method: &str) -> bool
     ensures { result ≡ takes_body method.now }
 {
-    *method == Method::POST || *method == Method::PUT
+    method == "POST" || method == "PUT"
 }
 
-/// The parts of the path are UTF-8.
+/// Tests that the parts of the path are UTF-8, and goes on.
 fn asked_of_parts(
     alloc: Global,
-    request: &Request,
+    request: &RequestParts<'_>,
     route: Route,
     action: Action,
 ) -> Result<Asked, AllocError>
     ensures { IfOk result (λ asked. asked ≡ asked_of_parts request.now route action) }
 {
-    let path = path_of(request.target.as_str());
+    let path = path_of(request.target());
     match text_part(alloc, path, route.subject_place())? {
         Ok(subject) => match text_part(alloc, path, route.number_place())? {
             Ok(number) => asked_of_texts(alloc, request, route, action, &subject, &number),
@@ -142,41 +142,31 @@ fn asked_of_parts(
     }
 }
 
-/// The input doesn't end in the body.
+/// Tests that the body is whole, and goes on.
 fn asked_of_texts(
     alloc: Global,
-    request: &Request,
+    request: &RequestParts<'_>,
     route: Route,
     action: Action,
-    subject: &Option<Text>,
-    number: &Option<Text>,
+    subject: &Option<PathPart<'_>>,
+    number: &Option<PathPart<'_>>,
 ) -> Result<Asked, AllocError>
     ensures { IfOk result (λ asked. asked ≡ asked_of_texts request.now route action subject.now number.now) }
 {
-    match &request.body {
-        Some(body) => {
-            asked_of_body(
-                alloc,
-                request,
-                route,
-                action,
-                subject,
-                number,
-                body.as_slice(),
-            )
-        }
+    match request.body() {
+        Some(body) => asked_of_body(alloc, request, route, action, subject, number, body),
         None => Ok(closing(Refusal::BadRequest)),
     }
 }
 
-/// The version is one, and the body is an object.
+/// Tests that the version in the path is valid and the body is a JSON object, and goes on.
 fn asked_of_body(
     alloc: Global,
-    request: &Request,
+    request: &RequestParts<'_>,
     route: Route,
     action: Action,
-    subject: &Option<Text>,
-    number: &Option<Text>,
+    subject: &Option<PathPart<'_>>,
+    number: &Option<PathPart<'_>>,
     body: &[u8],
 ) -> Result<Asked, AllocError>
     ensures { IfOk result (λ asked. asked ≡ asked_of_body request.now route action subject.now number.now body.now) }
@@ -184,14 +174,14 @@ fn asked_of_body(
     if names_version(route) && named_version(route, number).is_none() {
         return Ok(open_refusal(Refusal::InvalidVersion));
     }
-    match object_in(alloc, &request.method, body)? {
+    match object_in(alloc, request.method(), body)? {
         Some(object) => asked_of_object(alloc, request, route, action, subject, number, &object),
         None => Ok(closing(Refusal::BadRequest)),
     }
 }
 
-/// The JSON object that a body is, where the method takes one.
-fn object_in(alloc: Global, method: &Method, body: &[u8]) -> Result<Option<Value>, AllocError>
+/// Returns the JSON object in the body; `null` if the method takes no body.
+fn object_in(alloc: Global, method: &str, body: &[u8]) -> Result<Option<Value>, AllocError>
     ensures { IfOk result (λ found. option_map view found ≡ object_in method.now body.now) }
 {
     if takes_body(method) {
@@ -219,8 +209,8 @@ fn names_version(route: Route) -> bool
     }
 }
 
-/// The version that a path names, where its route has one.
-fn named_version(route: Route, number: &Option<Text>) -> Option<VersionRef>
+/// Returns the version that a path names; `None` if its route has none, or it is invalid.
+fn named_version(route: Route, number: &Option<PathPart<'_>>) -> Option<VersionRef>
     ensures { result ≡ named_version route number.now }
 {
     if !names_version(route) {
@@ -232,14 +222,14 @@ fn named_version(route: Route, number: &Option<Text>) -> Option<VersionRef>
     }
 }
 
-/// What the members ask of the action, or their refusal.
+/// Returns what the action asks with these members, or their refusal.
 fn asked_of_object(
     alloc: Global,
-    request: &Request,
+    request: &RequestParts<'_>,
     route: Route,
     action: Action,
-    subject: &Option<Text>,
-    number: &Option<Text>,
+    subject: &Option<PathPart<'_>>,
+    number: &Option<PathPart<'_>>,
     object: &Value,
 ) -> Result<Asked, AllocError>
     ensures { IfOk result (λ asked. asked ≡ asked_of_object request.now route action subject.now number.now (view object.now)) }
@@ -255,7 +245,7 @@ fn asked_of_object(
             None => "",
         },
         version: named_version(route, number),
-        query: query_of(request.target.as_str()),
+        query: query_of(request.target()),
         object,
     };
     match action_asks(action, &given)? {

@@ -15,10 +15,10 @@ use reg_leader::reg_values::is_plain_avro;
 use serde_json::Value;
 use std::alloc::{AllocError, Global};
 
-/// What is read, or why it is refused; the only error is out of memory.
+/// What was read, or why it is refused. The only error is out of memory.
 pub(crate) type Found<T> = Result<Result<T, Refusal>, AllocError>;
 
-/// The JSON object that a body is; `None` where it is not an object.
+/// Returns the JSON object that a body is; `None` if it isn't one. The only error is out of memory.
 #[tactic(auto, unfolding(crate::specs::Body::body_of))]
 pub(crate) fn object_in(alloc: Global, body: &[u8]) -> Result<Option<Value>, AllocError>
     ensures { IfOk result (λ found. option_map view found ≡ body_of body.now) }
@@ -43,7 +43,7 @@ pub(crate) fn object_in(alloc: Global, body: &[u8]) -> Result<Option<Value>, All
     }
 }
 
-/// The command that a registration asks for, or the first of its faults.
+/// Returns the command of a registration, or the refusal of its first fault.
 pub(crate) fn registration_in(alloc: Global, subject: &str, json: &Value) -> Found<Command>
     ensures { IfOk result (λ command. command ≡ registration_in subject.now (view json.now)) }
 {
@@ -61,7 +61,7 @@ pub(crate) fn registration_in(alloc: Global, subject: &str, json: &Value) -> Fou
     }
 }
 
-/// A registration; a version needs an id.
+/// Makes the command of a registration. Refused if there is a version but no id.
 fn registration_of(
     alloc: Global,
     subject: &str,
@@ -89,7 +89,8 @@ fn registration_of(
     Ok(Ok(command))
 }
 
-/// The text of an Avro schema that stands alone.
+/// Returns the text of the schema. Refused with `InvalidSchema` if there is none, or it isn't plain
+/// Avro.
 pub(crate) fn schema_in(json: &Value) -> Result<&str, Refusal>
     ensures { seen_text result ≡ schema_in (view json.now) }
 {
@@ -102,7 +103,7 @@ pub(crate) fn schema_in(json: &Value) -> Result<&str, Refusal>
     }
 }
 
-/// The id that a registration asks for.
+/// Returns the id that a registration asks for; `None` if the member is missing, `null` or -1.
 fn id_in(json: &Value) -> Result<Option<u32>, Refusal>
     ensures { result ≡ id_in (view json.now) }
 {
@@ -124,7 +125,8 @@ fn is_without_id(member: Option<&Value>) -> bool
     }
 }
 
-/// The version that a registration asks for.
+/// Returns the version that a registration asks for; `None` if the member is missing, `null`, -1 or
+/// 0.
 fn version_in(json: &Value) -> Result<Option<u32>, Refusal>
     ensures { result ≡ version_in (view json.now) }
 {
@@ -146,7 +148,7 @@ fn is_without_version(member: Option<&Value>) -> bool
     }
 }
 
-/// The level that a body names.
+/// Returns the level that a body names. Refused with `InvalidLevel` if there is none.
 pub(crate) fn level_in(json: &Value) -> Result<Level, Refusal>
     ensures { result ≡ level_in (view json.now) }
 {
@@ -159,7 +161,7 @@ pub(crate) fn level_in(json: &Value) -> Result<Level, Refusal>
     }
 }
 
-/// The mode that a body names.
+/// Returns the mode that a body names. Refused with `InvalidMode` if there is none.
 pub(crate) fn mode_in(json: &Value) -> Result<Mode, Refusal>
     ensures { result ≡ mode_in (view json.now) }
 {

@@ -5,9 +5,10 @@ use reg_messages::Request;
 use reg_routes::Paths;
 use std::alloc::{AllocError, Global};
 
-/// What asks something of the registry, by its method and its path.
+/// A request that can be routed.
 pub trait Routed {
-    /// What is asked, or why it is refused: the first test that fails. The only error is out of memory.
+    /// Returns what is asked, or the refusal of the first test that fails. The only error is out of
+    /// memory.
     fn route(&self, alloc: Global) -> Result<Asked, AllocError>;
 }
 

@@ -8,7 +8,7 @@ use crate::pieces::Piece;
 use reg_leader::Reply;
 use reg_leader::reg_refusals::{Refusal, StoreFault};
 
-/// The status and the body of the answer to a reply. The last pieces are empty where fewer do.
+/// Returns the status and the body of the answer to a reply. Unused pieces at the end are empty.
 #[tactic(auto, unfolding(crate::specs::Reply::reply_answer))]
 pub(crate) fn reply_pieces<'r>(reply: &'r Reply) -> (u16, [Piece<'r>; 5])
     ensures { answer_in result.0 result.1 ≡ reply_answer reply.now }
@@ -30,14 +30,14 @@ pub(crate) fn reply_pieces<'r>(reply: &'r Reply) -> (u16, [Piece<'r>; 5])
     }
 }
 
-/// The status and the body of a success.
+/// Returns a success with that body: status 200.
 fn told<'p>(body: [Piece<'p>; 5]) -> (u16, [Piece<'p>; 5])
     ensures { answer_in result.0 result.1 ≡ answer_with (Ok (pieces_text body.entry)) }
 {
     (200, body)
 }
 
-/// The status and the body of a refusal.
+/// Returns the status and the body of a refusal.
 pub(crate) fn refusal_pieces<'r>(refusal: &'r Refusal) -> (u16, [Piece<'r>; 5])
     ensures { answer_in result.0 result.1 ≡ answer_with (Err refusal.now) }
 {
@@ -45,7 +45,7 @@ pub(crate) fn refusal_pieces<'r>(refusal: &'r Refusal) -> (u16, [Piece<'r>; 5])
     (refusal.status(), body)
 }
 
-/// One piece, and no more.
+/// Makes a body of one piece; the others are empty.
 fn alone<'p>(piece: Piece<'p>) -> [Piece<'p>; 5]
     ensures { pieces_text result ≡ piece_text piece.entry }
 {
@@ -78,7 +78,7 @@ fn versions_pieces<'v>(versions: &'v [u32]) -> [Piece<'v>; 5]
     ]
 }
 
-/// An object of one member, which is a text.
+/// Makes a JSON object of one member, whose value is a string.
 fn member_pieces<'m>(name: &'m str, text: &'m str) -> [Piece<'m>; 5]
     ensures { pieces_text result ≡ member_body name.now text.now }
 {
@@ -91,7 +91,7 @@ fn member_pieces<'m>(name: &'m str, text: &'m str) -> [Piece<'m>; 5]
     ]
 }
 
-/// The body that tells a code and a message.
+/// Makes the body of an error: an object of a code and a message.
 #[tactic(auto, unfolding(json::specs::Print::escape_byte))]
 fn error_pieces<'m>(code: u32, message: &'m str) -> [Piece<'m>; 5]
     ensures { pieces_text result ≡ error_body code message.now }

@@ -8,7 +8,7 @@ use reg_leader::reg_records::quoted;
 use std::alloc::{AllocError, Global};
 use std::fmt::Write;
 
-/// The pieces, one after the other.
+/// Joins the pieces to one text. The only error is out of memory.
 pub(crate) fn joined(alloc: Global, pieces: &[Piece<'_>]) -> Result<Text, AllocError>
     ensures { IfOk result (λ text. text ≡ pieces_text pieces.now) }
 {

@@ -17,7 +17,7 @@ pub(crate) enum Piece<'p> {
     Number(u128),
     /// A text as a JSON string (RFC 8259, section 7).
     Quoted(&'p str),
-    /// Numbers, parted by commas.
+    /// Numbers, separated by commas.
     Listed(&'p [u32]),
 }
 
@@ -88,7 +88,8 @@ fn write_escaped_byte<W: Output>(writer: &mut Device<W>, b: u8) -> Result<(), Wr
     write_bytes(writer, &escape[..len])
 }
 
-/// What stands in a JSON string for a byte, and how long it is.
+/// Returns how a byte is written in a JSON string (RFC 8259, section 7), and how many bytes that
+/// takes, 6 at most.
 #[tactic(auto, unfolding(json::specs::Print::escape_byte))]
 fn escape_of(b: u8) -> ([u8; 6], usize)
     ensures value { take result.1 result.0 ≡ escape_byte b }
@@ -184,7 +185,7 @@ fn write_after_comma<W: Output>(writer: &mut Device<W>, number: u32) -> Result<(
     write_number(writer, u128::from(number))
 }
 
-/// How many bytes the pieces have.
+/// Returns how many bytes the pieces have.
 pub(crate) fn pieces_len(pieces: &[Piece<'_>]) -> u128
     requires few { length pieces.now ≤ 8 }
     ensures { result ≡ length (pieces_text pieces.now) }

@@ -8,7 +8,8 @@ use reg_leader::Reply;
 use reg_lookup::Answer;
 use std::alloc::{AllocError, Global};
 
-/// The answer to a reply; a refusal is one too. The only error is out of memory.
+/// Makes the answer (status and body) to a reply of a command. A refusal has one too. The only
+/// error is out of memory.
 pub fn reply_answer(alloc: Global, reply: &Reply) -> Result<Answer, AllocError>
     ensures { IfOk result (λ answer. answer ≡ reply_answer reply.now) }
 {
@@ -19,7 +20,7 @@ pub fn reply_answer(alloc: Global, reply: &Reply) -> Result<Answer, AllocError>
     })
 }
 
-/// The status of that answer. Takes no memory.
+/// Returns the HTTP status of the answer to a reply. Takes no memory.
 pub fn reply_status(reply: &Reply) -> u16
     ensures { result ≡ (reply_answer reply.now).status }
 {

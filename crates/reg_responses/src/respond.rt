@@ -12,8 +12,9 @@ use reg_leader::reg_records::{Device, Output};
 use reg_leader::reg_refusals::{Allow, Refusal};
 use reg_lookup::Answer;
 
-/// Writes the response that gives an answer, and flushes it. It tells whether the server closes the
-/// connection after it.
+/// Writes and flushes the response with an answer. If `closes` is set, it has the field
+/// `Connection: close` (RFC 9112, section 9.6). Fails if the writer failed or was interrupted too
+/// often; the writer then has a prefix of the response.
 pub fn write_answer<W: Output>(
     writer: &mut Device<W>,
     answer: &Answer,
@@ -26,7 +27,7 @@ pub fn write_answer<W: Output>(
     write_response(writer, answer.status, None, closes, &body)
 }
 
-/// Writes the response to a command's reply, and flushes it.
+/// Writes and flushes the response to a command's reply. Fails as [`write_answer`] does.
 pub fn write_reply<W: Output>(
     writer: &mut Device<W>,
     reply: &Reply,
@@ -39,8 +40,8 @@ pub fn write_reply<W: Output>(
     write_response(writer, status, None, closes, &body)
 }
 
-/// Writes the response of a refusal, with the methods that the path offers where it tells them, and
-/// flushes it.
+/// Writes and flushes the response of a refusal. After `MethodNotAllowed` it lists the methods of
+/// the path in the field `Allow` (RFC 9110, section 10.2.1). Fails as [`write_answer`] does.
 #[tactic(auto, unfolding(crate::specs::Response::refusal_text))]
 pub fn write_refusal<W: Output>(
     writer: &mut Device<W>,
@@ -63,7 +64,8 @@ fn allow_in(refusal: &Refusal) -> Option<Allow>
     }
 }
 
-/// Writes the response where memory was refused, and flushes it.
+/// Writes and flushes the response of a request for which memory was refused: status 500, code
+/// 50001. Fails as [`write_answer`] does.
 pub fn write_no_memory<W: Output>(writer: &mut Device<W>, closes: bool) -> Result<(), WriteFault>
     ensures written { Writes W.contents writer.old writer.new (memory_text closes) result }
     ensures ended { Ends W.writes W.flushes writer.new result }

@@ -13,11 +13,11 @@ use reg_leader::reg_records::{Device, Output};
 use reg_leader::reg_refusals::Allow;
 use std::io::{ErrorKind, Write};
 
-/// The writer failed, or was interrupted too often in a row.
+/// A lost writer: it failed, took none of some bytes, or was interrupted too often in a row.
 #[derive(Clone, Copy, Debug, PartialEq, Eq)]
 pub struct WriteFault;
 
-/// Writes a response whole, and flushes it. The writer's count of interruptions begins anew.
+/// Writes a whole response and flushes it. The writer's count of interruptions begins anew.
 #[tactic(auto, unfolding(crate::specs::Response::response_text))]
 pub(crate) fn write_response<W: Output>(
     writer: &mut Device<W>,
@@ -35,7 +35,9 @@ pub(crate) fn write_response<W: Output>(
     write_body(writer, body)
 }
 
-/// Writes the bytes whole, and flushes them. The writer's count of interruptions begins anew.
+/// Writes all the bytes and flushes them. The writer's count of interruptions begins anew. Fails if
+/// the writer fails, takes nothing, or is interrupted too often in a row; it then has a prefix of
+/// the bytes.
 pub fn write_whole<W: Output>(writer: &mut Device<W>, bytes: &[u8]) -> Result<(), WriteFault>
     ensures written { Writes W.contents writer.old writer.new bytes.now result }
     ensures ended { Ends W.writes W.flushes writer.new result }
@@ -100,7 +102,7 @@ pub(crate) fn write_bytes<W: Output>(writer: &mut Device<W>, bytes: &[u8]) -> Re
     Ok(())
 }
 
-/// Writes at least one of the bytes, and says how many.
+/// Writes at least one of the bytes, and returns how many.
 fn write_some<W: Output>(writer: &mut Device<W>, bytes: &[u8]) -> Result<usize, WriteFault>
     requires some { 0 < length bytes.now }
     requires interruptions { interruptions_of writer.old ≡ 0 }
@@ -142,7 +144,8 @@ fn flush<W: Output>(writer: &mut Device<W>) -> Result<(), WriteFault>
     Err(WriteFault)
 }
 
-/// The phrase of a status (RFC 9110, section 15); empty for a number that no status has.
+/// Returns the phrase of a status (RFC 9110, section 15); an empty text if no status has that
+/// number.
 #[tactic(auto, unfolding(crate::specs::Response::phrase_of))]
 fn phrase_of(status: u16) -> &'static str
     ensures { result.now ≡ phrase_of status }
@@ -153,7 +156,7 @@ fn phrase_of(status: u16) -> &'static str
     }
 }
 
-/// The field `Allow`, in three parts.
+/// Returns the field `Allow` in three parts, which are empty if there is none.
 fn allow_field(allow: Option<Allow>) -> (&'static str, &'static str, &'static str)
     ensures { result.0.now ++ (result.1.now ++ result.2.now) ≡ allow_field allow }
 {

@@ -6,17 +6,17 @@ use crate::paths::Paths;
 use crate::route::{Action, Route};
 use crate::target::{is_path, path_of};
 
-/// Where a request goes: the path of the registry that its target names, and what its method asks of that path.
+/// The path of the registry that a target names, and what the method asks of it.
 #[derive(Clone, Copy, Debug, PartialEq, Eq)]
 pub struct Endpoint {
-    /// `None` where the target names no path of the registry.
+    /// The path; `None` if the target names no path of the registry.
     pub route: Option<Route>,
-    /// `None` where that path doesn't offer the method.
+    /// What the method asks; `None` if there is no path, or it doesn't offer the method.
     pub action: Option<Action>,
 }
 
 impl Endpoint {
-    /// That of a request whose target names no path of the registry.
+    /// Returns the endpoint of a request whose target names no path of the registry.
     pub fn nowhere() -> Endpoint
         ensures { result ≡ nowhere }
     {
@@ -28,7 +28,8 @@ impl Endpoint {
 }
 
 impl Paths {
-    /// Where a request of that method and target goes. Takes no memory.
+    /// Returns the endpoint of a method and a target. Takes no memory. A target that doesn't begin
+    /// with `/` names no path.
     pub fn endpoint(&self, method: &str, target: &str) -> Endpoint
         ensures { result ≡ endpoint_of method.now target.now }
     {

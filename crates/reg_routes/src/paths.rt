@@ -7,7 +7,7 @@ use crate::route::Route;
 use matchit::{InsertError, Router};
 use std::alloc::{AllocError, Global};
 
-/// Each path with its route, in the order in which they are added.
+/// Each path with its route, in the order in which the router gets them.
 const PATHS: [(&str, Route); 13] = [
     ("/schemas/ids/{id}", Route::SchemaById),
     ("/schemas/ids/{id}/versions", Route::IdVersions),
@@ -33,7 +33,7 @@ const PATHS: [(&str, Route); 13] = [
     ("/mode/{subject}", Route::SubjectMode),
 ];
 
-/// A router of all paths of the registry.
+/// A router of all the paths of the registry.
 #[derive(Drop)]
 pub struct Paths {
     router: Router<Route>,
@@ -41,7 +41,7 @@ pub struct Paths {
 }
 
 impl Paths {
-    /// The only error is out of memory.
+    /// Makes the router. The only error is out of memory.
     pub fn new(alloc: Global) -> Result<Paths, AllocError> {
         match router_of_paths(alloc) {
             Ok(router) => Ok(Paths { router }),
@@ -49,7 +49,8 @@ impl Paths {
         }
     }
 
-    /// The route that a path takes, as it was sent, with its escapes. Takes no memory.
+    /// Returns the route that matches a path; `None` if none does. The path is matched as it was
+    /// sent, with its escapes. Takes no memory.
     #[tactic(auto, unfolding(crate::specs::Router::route_of))]
     pub fn route_of(&self, path: &str) -> Option<Route>
         ensures { result ≡ route_of path.now }
@@ -61,7 +62,7 @@ impl Paths {
     }
 }
 
-/// A router of all paths. The only error is out of memory.
+/// Makes a router of all the paths. The only error is out of memory.
 #[tactic(auto, unfolding(crate::specs::Router::path_rows))]
 fn router_of_paths(alloc: Global) -> Result<Router<Route>, AllocError>
     ensures { IfOk result (λ router. router ≡ path_rows) }
@@ -69,7 +70,7 @@ fn router_of_paths(alloc: Global) -> Result<Router<Route>, AllocError>
     router_of(alloc, &PATHS)
 }
 
-/// A router of these paths, added in turn. The only error is out of memory.
+/// Makes a router of these paths, added in turn. The only error is out of memory.
 fn router_of(alloc: Global, paths: &[(&str, Route)]) -> Result<Router<Route>, AllocError>
     requires { all_can_be_added [] (map (λ path. (path.0.now, path.1)) paths.now) ≡ true }
     ensures { IfOk result (λ router. router ≡ fold with_path [] (map (λ path. (path.0.now, path.1)) paths.now)) }

@@ -6,7 +6,7 @@ ghost use Rattle.reg_routes.specs.Routes.{action_of, allow_of, method_of, method
 
 use reg_refusals::Allow;
 
-/// A path of the Schema Registry API; a part in braces is a parameter.
+/// A path of the Schema Registry API; the parts in braces are parameters.
 #[derive(Clone, Copy, Debug, PartialEq, Eq)]
 pub enum Route {
     /// `/schemas/ids/{id}`
@@ -37,8 +37,7 @@ pub enum Route {
     SubjectMode,
 }
 
-/// What a method asks of a path: the query or the command of that name, before its arguments are
-/// read.
+/// What a method asks of a path: the query or the command of that name, without its arguments.
 #[derive(Clone, Copy, Debug, PartialEq, Eq)]
 pub enum Action {
     SchemaById,
@@ -61,7 +60,7 @@ pub enum Action {
 }
 
 impl Action {
-    /// The method that asks it.
+    /// Returns the HTTP method that asks the action.
     pub fn method(self) -> &'static str
         ensures { result.now ≡ method_of self }
     {
@@ -85,7 +84,7 @@ impl Action {
 }
 
 impl Route {
-    /// The path, whose parameters stand in braces.
+    /// Returns the path with its parameters in braces.
     pub fn pattern(self) -> &'static str
         ensures { result.now ≡ pattern_of self }
     {
@@ -106,8 +105,8 @@ impl Route {
         }
     }
 
-    /// What the method asks of the path; `None` where the path doesn't offer it. Methods are
-    /// compared with case (RFC 9110, section 9.1).
+    /// Returns what a method asks of the path; `None` if the path doesn't offer it. Methods are
+    /// case-sensitive (RFC 9110, section 9.1).
     pub fn action(self, method: &str) -> Option<Action>
         ensures { result ≡ action_of self method.now }
     {
@@ -133,7 +132,7 @@ impl Route {
         }
     }
 
-    /// The methods that the path offers.
+    /// Returns the methods that the path offers, for the field `Allow` (RFC 9110, section 10.2.1).
     pub fn allow(self) -> Allow
         ensures value { result ≡ allow_of self }
         ensures text { allow_text result ≡ join_by (λ method. method) (codes ", ") (methods_of self) }
@@ -151,8 +150,8 @@ impl Route {
         }
     }
 
-    /// Which part of the path is a subject, if one is; the empty part before the first slash is
-    /// number 0.
+    /// Returns which part of the path is a subject; `None` if none is. Parts are counted from 0,
+    /// which is the empty part before the first slash.
     pub fn subject_place(self) -> Option<usize>
         ensures { result ≡ subject_place self }
     {
@@ -169,7 +168,8 @@ impl Route {
         }
     }
 
-    /// Which part of the path is an id or a version, if one is, counted in the same way.
+    /// Returns which part of the path is an id or a version, counted from 0 as in
+    /// [`Route::subject_place`]; `None` if none is.
     pub fn number_place(self) -> Option<usize>
         ensures { result ≡ number_place self }
     {

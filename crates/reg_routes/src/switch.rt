@@ -5,8 +5,9 @@ ghost use Rattle.reg_routes.specs.Query.{has_switch};
 use form_urlencoded::parse;
 use std::alloc::{AllocError, Global};
 
-/// Whether some pair of the query, decoded as a form's, is that name with the value `true`. Both
-/// are compared with case. The only error is out of memory.
+/// Returns whether a pair of the query has that name and the value `true`, after decoding it as a
+/// form (`application/x-www-form-urlencoded`). Both are case-sensitive. The only error is out of
+/// memory.
 pub fn has_switch(alloc: Global, query: &[u8], name: &str) -> Result<bool, AllocError>
     ensures { IfOk result (λ on. on ≡ has_switch name.now query.now) }
 {

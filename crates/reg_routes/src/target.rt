@@ -1,21 +1,21 @@
-// The path and the query of a target, and the texts that the parts of a path stand for.
+// The path and the query of a target, and the decoded parts of a path.
 ghost use Rattle.std.specs.Prelude.{◌≡◌, ◌==◌, IfOk};
 ghost use Rattle.std.specs.List.{before_first, after_first};
 ghost use Rattle.reg_routes.specs.Target.{is_path, part_at, part_text, path_of, query_of, text_part};
 
-use base_text::Text;
+use crate::path_part::PathPart;
 use percent_encoding::{DecodeError, percent_decode};
 use reg_refusals::Refusal;
 use std::alloc::{AllocError, Global};
 
-/// Whether a target begins with `/`; being a text, it is UTF-8.
+/// Returns whether a target begins with `/`.
 pub fn is_path(target: &str) -> bool
     ensures { result ≡ is_path target.now }
 {
     target.as_bytes().starts_with(b"/")
 }
 
-/// A target without its query.
+/// Returns a target without its query.
 pub fn path_of(target: &str) -> &str
     ensures { result.now ≡ path_of target.now }
 {
@@ -25,20 +25,22 @@ pub fn path_of(target: &str) -> &str
     }
 }
 
-/// What stands after the first question mark.
+/// Returns the bytes after the first question mark of a target; none if it has no question mark.
 pub fn query_of(target: &str) -> &[u8]
     ensures { result.now ≡ query_of target.now }
 {
     split_once(target.as_bytes(), b'?').1
 }
 
-/// The text that the part of a path stands for, where a part of that number is asked for; refused
-/// with `BadRequest` where its escapes give no UTF-8. The only error is out of memory.
-pub fn text_part(
+/// Decodes the escapes (`%41`) of a part of a path. Parts are counted from 0, which is the part
+/// before the first slash; without a place the result is `None`. Refused with `BadRequest` if the
+/// decoded bytes are not UTF-8. A part without escapes takes no memory. The only error is out of
+/// memory.
+pub fn text_part<'p>(
     alloc: Global,
-    path: &str,
+    path: &'p str,
     place: Option<usize>,
-) -> Result<Result<Option<Text>, Refusal>, AllocError>
+) -> Result<Result<Option<PathPart<'p>>, Refusal>, AllocError>
     ensures { IfOk result (λ text. text ≡ text_part path.now place) }
 {
     let Some(place) = place else {
@@ -50,18 +52,18 @@ pub fn text_part(
     }
 }
 
-/// The text that a part of a path stands for; `None` where its escapes give no UTF-8.
-fn part_text(alloc: Global, part: &[u8]) -> Result<Option<Text>, AllocError>
+/// Decodes the escapes of a part of a path; `None` if the decoded bytes are not UTF-8.
+fn part_text<'p>(alloc: Global, part: &'p [u8]) -> Result<Option<PathPart<'p>>, AllocError>
     ensures { IfOk result (λ text. text ≡ part_text part.now) }
 {
     match percent_decode(part).decode_utf8(alloc) {
-        Ok(text) => Ok(Some(Text::of_string(text.into_owned(alloc)?)?)),
+        Ok(text) => Ok(Some(PathPart::of(text))),
         Err(DecodeError::Utf8(_)) => Ok(None),
         Err(DecodeError::OutOfMemory) => Err(AllocError),
     }
 }
 
-/// What stands between two slashes of a path, before the first or after the last, counted from 0.
+/// Returns the part of a path after `place` slashes, up to the next one.
 fn part_at(path: &[u8], place: usize) -> &[u8]
     ensures { result.now ≡ part_at place path.now }
 {
@@ -72,7 +74,7 @@ fn part_at(path: &[u8], place: usize) -> &[u8]
     split_once(rest, b'/').0
 }
 
-/// The bytes before the first separator, and those after it.
+/// Returns the bytes before the first separator, and those after it.
 fn split_once(bytes: &[u8], separator: u8) -> (&[u8], &[u8])
     ensures before { result.0.now ≡ before_first (λ b. b == separator) bytes.now }
     ensures after { result.1.now ≡ after_first (λ b. b == separator) bytes.now }

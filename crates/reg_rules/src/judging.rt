@@ -17,10 +17,11 @@ use reg_modes::reg_fold::{Registry, entries_are_read};
 use reg_modes::reg_level_names::Level;
 use std::alloc::{AllocError, Global};
 
-/// The message of the first pair that clashes, by the judgement if it was made of the live versions that
-/// the level looks at, else by a new one; `None` where the level is met. The only error is out of memory.
+/// Checks a schema under the subject's level in force: returns the message of the first required
+/// pair that clashes, or `None` if the level is met. The only error is out of memory.
 ///
-/// Other versions aren't touched.
+/// `judged` is used if it was made of this schema, this level and the live versions that the level
+/// looks at; else the check is made here. Other versions aren't touched.
 pub fn clash_of(
     alloc: Global,
     registry: &Registry,
@@ -41,15 +42,15 @@ pub fn clash_of(
     verdict.message(alloc)
 }
 
-/// The text of each live version of a subject is a schema's. What is proved here costs nothing at run time: a function that
-/// needs the law calls it.
+/// States that the text of each live version is a schema's. Costs nothing at run time: a function
+/// that needs the law calls it.
 pub fn live_versions_are_read()
     ensures { LiveVersionsAreRead }
 {
     entries_are_read();
 }
 
-/// The judgement, if it was made of these.
+/// Returns the judgement if it was made of this level, schema and versions.
 fn fitting<'a>(
     judged: Option<&'a Judged>,
     level: Level,
@@ -64,7 +65,7 @@ fn fitting<'a>(
     }
 }
 
-/// The verdict on a schema. The only error is out of memory.
+/// Checks a schema against these versions. The only error is out of memory.
 fn checked(
     alloc: Global,
     level: Level,

@@ -1,5 +1,23 @@
-//! The rules of commands: what is asked of a registry before a command is done, each test with its
-//! refusal, and what commands write.
+//! The rules of commands: the tests before a command is done, each with its refusal, and the
+//! records that commands write.
+//!
+//! The tests are small functions ([`must_be_open`], [`must_have_offset`], [`must_name_no_other`]
+//! and others), which `reg_leader` calls in each command's order. [`clash_of`] checks a new schema
+//! under the level in force. A [`Writing`] is a record without its offset, and [`numbered`] makes
+//! the batch.
+//!
+//! One idea: a check touches only the versions that the level looks at ([`live_looked_at`]): none,
+//! the latest live one, or all live ones. A judgement made earlier is used only if it was made of
+//! exactly these.
+//!
+//! This crate decides no command, publishes nothing and takes no locks.
+//!
+//! The main contract is that of [`clash_of`]: `None` means that the schema meets the level in force
+//! against the live versions, and a message means that it doesn't, whether a judgement was given or
+//! not.
+//!
+//! Tests: `test_records` has the versions that are fetched; the rows of commands are in
+//! `rule_cases`.
 #![tactic(auto)]
 
 mod judging;

@@ -8,8 +8,8 @@ use reg_modes::reg_fold::{Entry, Registry, VersionRef, entries_stand_by_version}
 use reg_modes::reg_level_names::Level;
 use std::alloc::{AllocError, Global};
 
-/// The live versions of a subject that a level looks at, by version: none, the greatest, which is sought
-/// alone, or all. The only error is out of memory.
+/// Returns the live versions of a subject that a level looks at, in the order of versions: none,
+/// the latest (found without listing the others), or all. The only error is out of memory.
 pub fn live_looked_at<'a>(
     alloc: Global,
     registry: &'a Registry,
@@ -28,7 +28,7 @@ pub fn live_looked_at<'a>(
     }
 }
 
-/// The greatest live version of a subject, if there is one. The only error is out of memory.
+/// Returns the latest live version of a subject, if it has one. The only error is out of memory.
 fn latest_live<'a>(
     alloc: Global,
     registry: &'a Registry,

@@ -12,7 +12,8 @@ use reg_modes::avro_schema::{SchemaReading, SchemaText};
 use reg_modes::reg_fold::{Entry, Refusal, Registry};
 use std::alloc::AllocError;
 
-/// What is asked of the schema of a text, if it has one.
+/// Reads the schema of a text. Refused with `InvalidSchema` if the text isn't a schema; else the
+/// only refusal is of memory.
 pub fn read_schema(text: &SchemaText) -> Result<SchemaReading, Refusal>
     ensures { IsRead text.now result }
 {
@@ -23,7 +24,8 @@ pub fn read_schema(text: &SchemaText) -> Result<SchemaReading, Refusal>
     }
 }
 
-/// Refuses with `InvalidSchema` where a default of the schema isn't valid. Takes no memory.
+/// Tests the defaults of a schema. Refused with `InvalidSchema` if one of them isn't valid. Takes
+/// no memory.
 pub fn must_have_valid_defaults(schema: &SchemaReading) -> Result<(), Refusal>
     ensures { result ≡ test.refuse_unless schema.now.has_valid_defaults Refusal.InvalidSchema }
 {
@@ -33,8 +35,9 @@ pub fn must_have_valid_defaults(schema: &SchemaReading) -> Result<(), Refusal>
     Ok(())
 }
 
-/// Of a subject's live versions with that schema the greatest. They are gone through only where a version of
-/// some subject has it. The only error is out of memory.
+/// Finds the latest live version of a subject that has the schema with this normal text. The
+/// subject's versions are only listed if a version of some subject has that schema. The only error
+/// is out of memory.
 pub fn live_schema<'a>(
     registry: &'a Registry,
     subject: &str,
@@ -50,7 +53,9 @@ pub fn live_schema<'a>(
     Ok(newest_schema(&live, normal))
 }
 
-/// The same of those that have that id too.
+/// Finds the latest live version of a subject that has this id and the schema with this normal
+/// text. The subject's versions are only listed if a version of some subject has that schema. The
+/// only error is out of memory.
 pub fn live_import<'a>(
     registry: &'a Registry,
     subject: &str,
@@ -67,7 +72,7 @@ pub fn live_import<'a>(
     Ok(newest_import(&live, id, normal))
 }
 
-/// Of those entries with that schema the one of greatest version.
+/// Returns the entry of greatest version that has the schema.
 fn newest_schema<'a>(entries: &[&'a Entry], normal: &str) -> Option<&'a Entry>
     ensures { option_copied result ≡ newest (filter (has_schema normal.now) (map (λ e. e.now) entries.now)) }
 {
@@ -78,7 +83,7 @@ fn newest_schema<'a>(entries: &[&'a Entry], normal: &str) -> Option<&'a Entry>
     best
 }
 
-/// Of those entries with that id and that schema the one of greatest version.
+/// Returns the entry of greatest version that has the id and the schema.
 fn newest_import<'a>(entries: &[&'a Entry], id: u32, normal: &str) -> Option<&'a Entry>
     ensures { option_copied result ≡ newest (filter (is_of id normal.now) (map (λ e. e.now) entries.now)) }
 {
@@ -89,7 +94,7 @@ fn newest_import<'a>(entries: &[&'a Entry], id: u32, normal: &str) -> Option<&'a
     best
 }
 
-/// Of the best so far and an entry, if it counts, the one of greater version.
+/// Returns the one of greater version of the best so far and this entry, if it counts.
 fn better<'a>(best: Option<&'a Entry>, entry: &'a Entry, counts: bool) -> Option<&'a Entry>
     ensures { option_copied result ≡ better counts entry.now (option_copied best.entry) }
 {
@@ -100,14 +105,14 @@ fn better<'a>(best: Option<&'a Entry>, entry: &'a Entry, counts: bool) -> Option
     }
 }
 
-/// Whether an entry has that schema.
+/// Returns whether an entry has the schema with this normal text.
 pub(crate) fn has_schema(entry: &Entry, normal: &str) -> bool
     ensures { result ≡ has_schema normal.now entry.now }
 {
     entry.normal.as_str() == normal
 }
 
-/// Whether an entry has that id and that schema.
+/// Returns whether an entry has this id and the schema with this normal text.
 pub fn is_of(entry: &Entry, id: u32, normal: &str) -> bool
     ensures { result ≡ is_of id normal.now entry.now }
 {

@@ -9,7 +9,8 @@ use reg_modes::reg_fold::{Reason, Refusal, Registry, StoreFault};
 use reg_modes::reg_records::{NUMBER_LIMIT, OFFSET_LIMIT};
 use reg_modes::{Mode, may_set_import};
 
-/// Refuses where the registry is closed: `OpaqueRecord`, else `TwoSchemas`.
+/// Tests that the registry takes commands. Refused with `OpaqueRecord` if a version's record can't
+/// be read, else with `TwoSchemas` if an id names two schemas.
 pub fn must_be_open(registry: &Registry) -> Result<(), Refusal>
     ensures { result ≡ test.must_be_open registry.now }
 {
@@ -22,7 +23,7 @@ pub fn must_be_open(registry: &Registry) -> Result<(), Refusal>
     Ok(())
 }
 
-/// Refuses with `NumbersUsedUp` where no offset is left.
+/// Tests that the next offset is within the limit. Refused with `NumbersUsedUp`.
 pub fn must_have_offset(next: u64) -> Result<(), Refusal>
     ensures { result ≡ test.must_have_offset next }
 {
@@ -32,7 +33,8 @@ pub fn must_have_offset(next: u64) -> Result<(), Refusal>
     Ok(())
 }
 
-/// The number, where it is a version's or an id's; else refuses with `NumbersUsedUp`.
+/// Returns a version or an id, which is from 1 to 2,147,483,647. Refused with `NumbersUsedUp` if it
+/// isn't.
 pub fn must_be_number(number: u64) -> Result<u32, Refusal>
     ensures { Finds (test.must_be_number number) (λ within. within ≡ number) result }
 {
@@ -42,7 +44,8 @@ pub fn must_be_number(number: u64) -> Result<u32, Refusal>
     Ok(number as u32)
 }
 
-/// Refuses where the scope may not be set to the mode.
+/// Tests that the scope may be set to the mode. Refused if the mode is IMPORT, a version in the
+/// scope is live and it isn't forced.
 pub fn must_allow_mode(
     registry: &Registry,
     scope: &Option<Text>,
@@ -57,11 +60,11 @@ pub fn must_allow_mode(
     }
 }
 
-/// Refuses where the id names another schema.
+/// Tests that an id names no other schema. Refused with `IdNamesAnotherSchema`.
 ///
-/// The registry is to be open, which `must_be_open` tests: then all entries of an id have one schema. In a
-/// closed one an id may already name two, and only that of the entry which `by_id` gives is looked at;
-/// an import tests `must_be_open` first, so it is refused there before this is asked.
+/// Call [`must_be_open`] first, as an import does: then all entries of an id have one schema. In a
+/// closed registry an id may name two, and only the schema of the entry that `by_id` gives is
+/// looked at.
 pub fn must_name_no_other(registry: &Registry, id: u32, normal: &Text) -> Result<(), Refusal>
     ensures { result ≡ test.must_name_no_other registry.now id normal.now }
 {
@@ -73,7 +76,8 @@ pub fn must_name_no_other(registry: &Registry, id: u32, normal: &Text) -> Result
     }
 }
 
-/// Refuses unless a version has the id, soft ones too, or the id is above the mark of ids.
+/// Tests that an id may be given: some version has it, live or soft-deleted, or it is above the id
+/// mark (the record of the highest id ever given). Refused with `IdIsNotAboveMark`.
 pub fn must_be_above_mark(registry: &Registry, id: u32) -> Result<(), Refusal>
     ensures { result ≡ test.must_be_above_mark registry.now id }
 {
@@ -83,7 +87,7 @@ pub fn must_be_above_mark(registry: &Registry, id: u32) -> Result<(), Refusal>
     Ok(())
 }
 
-/// Refuses with `SubjectNotFound` where the subject has no version, soft ones too.
+/// Tests that the subject has a version, live or soft-deleted. Refused with `SubjectNotFound`.
 pub fn must_stand(registry: &Registry, subject: &Text) -> Result<(), Refusal>
     ensures { result ≡ test.must_stand registry.now subject.now }
 {
@@ -93,7 +97,7 @@ pub fn must_stand(registry: &Registry, subject: &Text) -> Result<(), Refusal>
     Ok(())
 }
 
-/// The subject of a scope, lent.
+/// Borrows the subject of a scope; `None` if the scope is all subjects.
 pub fn subject_of(scope: &Option<Text>) -> Option<&str>
     ensures { option_map (λ s. s.now) result ≡ scope.now }
 {

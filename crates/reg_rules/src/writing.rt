@@ -11,7 +11,7 @@ use reg_modes::reg_level_names::Level;
 use reg_modes::reg_records::{Key, Record, Value};
 use std::alloc::{AllocError, Global};
 
-/// A record without its offset; no value deletes the key.
+/// A record without its offset. One without a value deletes the key.
 #[derive(Debug, Drop)]
 pub struct Writing {
     pub key: Key,
@@ -19,7 +19,7 @@ pub struct Writing {
 }
 
 impl Writing {
-    /// Its record, at that offset.
+    /// Makes its record, at this offset.
     fn at(self, alloc: Global, offset: u64) -> Result<Record, AllocError>
         ensures { IfOk result (λ made. made ≡ written_at offset self) }
     {
@@ -31,6 +31,7 @@ impl Writing {
         Ok(Record { offset, key, value })
     }
 
+    /// Makes a record that changes nothing.
     pub fn no_operation() -> Writing
         ensures { result ≡ no_operation }
     {
@@ -40,7 +41,7 @@ impl Writing {
         }
     }
 
-    /// Ids were given away up to this one.
+    /// Makes an id mark: a record that ids up to this one were given away.
     pub fn id_marked(id: u32) -> Writing
         ensures { result ≡ id_marked id }
     {
@@ -50,6 +51,7 @@ impl Writing {
         }
     }
 
+    /// Makes a record that sets the scope's level. The only error is out of memory.
     pub fn level_set(
         alloc: Global,
         scope: &Option<Text>,
@@ -63,6 +65,7 @@ impl Writing {
         })
     }
 
+    /// Makes a record that removes the subject's own level. The only error is out of memory.
     pub fn level_cleared(subject: &Text) -> Result<Writing, AllocError>
         ensures { IfOk result (λ writing. writing ≡ level_cleared subject.now) }
     {
@@ -72,6 +75,7 @@ impl Writing {
         })
     }
 
+    /// Makes a record that sets the scope's mode. The only error is out of memory.
     pub fn mode_set(alloc: Global, scope: &Option<Text>, mode: Mode) -> Result<Writing, AllocError>
         ensures { IfOk result (λ writing. writing ≡ mode_set scope.now mode) }
     {
@@ -81,6 +85,7 @@ impl Writing {
         })
     }
 
+    /// Makes a record that removes the subject's own mode. The only error is out of memory.
     pub fn mode_cleared(subject: &Text) -> Result<Writing, AllocError>
         ensures { IfOk result (λ writing. writing ≡ mode_cleared subject.now) }
     {
@@ -90,7 +95,7 @@ impl Writing {
         })
     }
 
-    /// A version of a subject.
+    /// Makes a record of a live version of a subject. The only error is out of memory.
     pub fn version_of(
         subject: &Text,
         version: u32,
@@ -114,7 +119,8 @@ impl Writing {
         })
     }
 
-    /// An entry's record again, as a deleted one.
+    /// Makes a record that soft-deletes an entry's version: the entry again, marked as deleted. The
+    /// only error is out of memory.
     pub fn deleted_again(entry: &Entry) -> Result<Writing, AllocError>
         ensures { IfOk result (λ writing. writing ≡ deleted_again entry.now) }
     {
@@ -133,6 +139,7 @@ impl Writing {
         })
     }
 
+    /// Makes a record that deletes an entry's version permanently. The only error is out of memory.
     pub fn removed(entry: &Entry) -> Result<Writing, AllocError>
         ensures { IfOk result (λ writing. writing ≡ removed entry.now) }
     {
@@ -145,6 +152,8 @@ impl Writing {
         })
     }
 
+    /// Makes a record that soft-deletes a subject's versions up to this one. The only error is out
+    /// of memory.
     pub fn deleted_up_to(subject: &Text, version: u32) -> Result<Writing, AllocError>
         ensures { IfOk result (λ writing. writing ≡ deleted_up_to subject.now version) }
     {
@@ -158,7 +167,7 @@ impl Writing {
     }
 }
 
-/// The records of those writings, at the offsets from `next` on.
+/// Makes the records of a batch, at the offsets from `next` on. The only error is out of memory.
 pub fn numbered(alloc: Global, next: u64, writings: Vec<Writing>) -> Result<Vec<Record>, AllocError>
     requires { next + vec_len writings ≤ suc OFFSET_LIMIT }
     ensures { IfOk result (λ batch. batch.items ≡ numbered next writings.items) }

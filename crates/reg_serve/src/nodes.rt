@@ -4,7 +4,7 @@ ghost use Rattle.std.specs.Prelude.{true, IsOk, OnOk};
 use crate::latch::Latch;
 use crate::poller::{EVENTS, Poller};
 use crate::shared_state::SharedState;
-use crate::worker::{WorkerState, work};
+use crate::worker::{WorkerState, read_buffer, work};
 use mio::{Events, Poll};
 use reg_connection::Limits;
 use reg_conversation::SharedDesk;
@@ -140,10 +140,10 @@ pub fn open_node<
     limit: Option<u64>,
 ) -> Result<(), StartError> {
     for desk in desks {
-        let state = WorkerState::new(alloc)?;
+        let buffer = read_buffer(alloc)?;
         node.at_work.fetch_add(1, Ordering::SeqCst);
         if scope
-            .spawn(move || serve_at(rt, alloc, latch, node, state, desk))
+            .spawn(move || serve_at(rt, alloc, latch, node, buffer, desk))
             .is_err()
         {
             return Err(StartError);
@@ -186,16 +186,17 @@ pub fn follow_list<
     Ok(())
 }
 
-/// What a worker's thread does.
+/// What a worker's thread does. It makes the worker's state itself, so that only its buffer goes to
+/// the thread.
 fn serve_at<R: Wait + Clock, D: SharedDesk + Drop, F: Observe + Drop>(
     rt: &R,
     alloc: Global,
     latch: &Latch,
     node: &NodeServer<'_, F, D::Standing>,
-    state: WorkerState,
+    buffer: Vec<u8>,
     desk: D,
 ) {
-    let mut state = state;
+    let mut state = WorkerState::new(alloc, buffer);
     let mut desk = desk;
     if latch.pass(rt) {
         let traffic = node.observer.traffic();

@@ -46,17 +46,23 @@ pub(crate) struct WorkerState {
 }
 
 impl WorkerState {
-    /// A worker's, with all the memory that it needs before the first connection.
-    pub(crate) fn new(alloc: Global) -> Result<WorkerState, AllocError> {
-        let mut buffer = Vec::new(alloc);
-        buffer.resize(READ_SIZE, 0u8)?;
-        Ok(WorkerState {
-            paths: Some(Paths::new(alloc)?),
+    /// Makes a worker's, which reads into that buffer. If memory for the paths is refused, the first
+    /// request asks for it again.
+    pub(crate) fn new(alloc: Global, buffer: Vec<u8>) -> WorkerState {
+        WorkerState {
+            paths: Paths::new(alloc).ok(),
             out: Vec::new(alloc),
             buffer,
             calm: 0,
-        })
+        }
     }
+}
+
+/// Makes a buffer for a worker to read into. The only error is out of memory.
+pub(crate) fn read_buffer(alloc: Global) -> Result<Vec<u8>, AllocError> {
+    let mut buffer = Vec::new(alloc);
+    buffer.resize(READ_SIZE, 0u8)?;
+    Ok(buffer)
 }
 
 /// How the answers of one turn end.

@@ -16,7 +16,7 @@ pub struct Size {
 }
 
 impl Size {
-    /// The same but for the workers, of which there are the nearest number from the least one to the most.
+    /// Returns the size with its workers brought into these bounds: fewer become `least`, more `most`.
     pub fn with_workers(self, least: u32, most: u32) -> Size
         requires { least ≤ most }
         ensures workers { result.workers ≡ max least (min self.workers most) }

@@ -17,8 +17,8 @@ use reg_records::{Key, Record};
 use std::alloc::{AllocError, Global};
 use std::collections::BTreeMap;
 
-/// Takes the record in among those of its key, and says what that did. The only error is out of
-/// memory; each key then has the records that it had.
+/// Adds the record to those of its key, and returns what that did. The only error is out of memory;
+/// each key then has the records that it had.
 pub(crate) fn take_in(
     alloc: Global,
     by_key: &mut BTreeMap<Key, Vec<Record>>,
@@ -45,8 +45,8 @@ pub(crate) fn take_in(
     }
 }
 
-/// Puts the record at its key, which has none. The only error is out of memory; all is then as it
-/// was.
+/// Adds the record at its key, which has none. The only error is out of memory; the map is then
+/// unchanged.
 fn add_key(
     alloc: Global,
     by_key: &mut BTreeMap<Key, Vec<Record>>,
@@ -65,7 +65,7 @@ fn add_key(
     Ok(())
 }
 
-/// Leaves the last record of each key alone.
+/// Removes all records but the last of each key.
 pub(crate) fn leave_lasts(by_key: &mut BTreeMap<Key, Vec<Record>>)
     ensures left { IsLastsOf by_key.old by_key.new }
     ensures in_order { IsOrdered key_cmp by_key.new }
@@ -126,7 +126,7 @@ pub(crate) fn list_lasts(
     Ok(found)
 }
 
-/// Adds the records to the set. An error is out of memory; some were added then, maybe.
+/// Adds the records to the set. The only error is out of memory; some may then have been added.
 pub(crate) fn add_all(
     into: &mut RecordSet,
     by_key: &BTreeMap<Key, Vec<Record>>,
@@ -148,7 +148,7 @@ fn add_each(into: &mut RecordSet, records: &[Record]) -> Result<(), AllocError>
     Ok(())
 }
 
-/// Whether the set has all of the records.
+/// Returns whether the set has all of the records.
 pub(crate) fn are_all_in(by_key: &BTreeMap<Key, Vec<Record>>, whole: &RecordSet) -> bool
     ensures { result ≡ list_all (λ v. list_all (set.contains whole.now) v.items) (values by_key.now) }
 {
@@ -161,7 +161,7 @@ fn are_in(records: &[Record], whole: &RecordSet) -> bool
     records.iter().all(|record| whole.contains(record))
 }
 
-/// Whether the part has the last record of the whole set of each key that has records here.
+/// Returns whether the part has the last record of the whole set of each key that has records here.
 pub(crate) fn has_lasts_of_keys(
     by_key: &BTreeMap<Key, Vec<Record>>,
     part: &RecordSet,
@@ -172,8 +172,8 @@ pub(crate) fn has_lasts_of_keys(
     by_key.keys().all(|key| has_last_of(part, whole, key))
 }
 
-/// Whether the part has the last record of the whole set of each key that has records here, or the
-/// key is gone.
+/// Returns whether the part has the last record of the whole set of each key that has records here,
+/// or that record is a tombstone below the floor and the part has none of the key.
 pub(crate) fn are_kept_or_gone(
     by_key: &BTreeMap<Key, Vec<Record>>,
     floor: u64,

@@ -16,7 +16,7 @@ use std::collections::BTreeMap;
 use std::marker::Model;
 use std::mem;
 
-/// The last record of each key, and no other: what compacting a set of records leaves.
+/// The last record of each key, and no other: what a compaction leaves of a set of records.
 ///
 /// Contracts see it as the set of these records.
 #[derive(Debug, Drop)]
@@ -53,7 +53,7 @@ impl Clone for LastRecords {
 }
 
 impl LastRecords {
-    /// Of no record.
+    /// Makes the set without records.
     pub fn new(alloc: Global) -> LastRecords
         ensures { result ≡ set.empty }
     {
@@ -63,21 +63,21 @@ impl LastRecords {
         }
     }
 
-    /// Those of a set. The only error is out of memory.
+    /// Collects the last record of each key of a set. The only error is out of memory.
     pub fn of(set: &RecordSet) -> Result<LastRecords, AllocError>
         ensures { IfOk result (λ found. found ≡ last_records set.now) }
     {
         set.lasts()
     }
 
-    /// The last record of the key.
+    /// Returns the last record of the key.
     pub fn last(&self, key: &Key) -> Option<&Record>
         ensures { option_map (λ found. found.now) result ≡ last self.now key.now }
     {
         self.by_key.get(key)
     }
 
-    /// Whether the record is the last of its key.
+    /// Returns whether the record is the last of its key.
     pub fn contains(&self, given: &Record) -> bool
         ensures { result ≡ set.contains self.now given.now }
     {
@@ -87,7 +87,8 @@ impl LastRecords {
         }
     }
 
-    /// Whether the record is later than the last of its key. It takes no memory.
+    /// Returns whether the record is later than the last of its key, or its key has none. Takes no
+    /// memory.
     pub fn is_news(&self, given: &Record) -> bool
         ensures news { IsTrue result → last_records (set.insert self.now given.now) ≢ self.now }
         ensures no_news { result ≡ false → last_records (set.insert self.now given.now) ≡ self.now }
@@ -98,8 +99,8 @@ impl LastRecords {
         }
     }
 
-    /// Adds the record, unless its key has that one or a later one, and gives the record that it
-    /// took the place of. The only error is out of memory; all is then as it was.
+    /// Adds the record, unless its key has that one or a later one, and returns the record that it
+    /// replaced. The only error is out of memory; the set is then unchanged.
     pub fn put(&mut self, given: &Record) -> Result<Option<Record>, AllocError>
         ensures added { OnOk result (self.new ≡ last_records (set.insert self.old given.now)) }
         ensures there { OnOk result (IsSome (last self.new given.now.key)) }
@@ -118,8 +119,8 @@ impl LastRecords {
         Ok(before)
     }
 
-    /// Makes a copy of a record that is later than the last of its key the last of its key, and gives
-    /// the one before. The only error is out of memory; all is then as it was.
+    /// Adds a copy of a record that is later than the last of its key, and returns the record that
+    /// it replaced. The only error is out of memory; the set is then unchanged.
     pub fn put_news(&mut self, given: &Record) -> Result<Option<Record>, AllocError>
         requires { last_records (set.insert self.old given.now) ≢ self.old }
         ensures added { OnOk result (self.new ≡ last_records (set.insert self.old given.now)) }
@@ -133,8 +134,8 @@ impl LastRecords {
         Ok(before)
     }
 
-    /// Makes a record that is later than the last of its key, which has one, the last of its key, and
-    /// gives the one before. It takes no memory.
+    /// Replaces the last record of a key, which has one, by a later record, and returns the one
+    /// before. Takes no memory.
     pub fn put_over(&mut self, given: Record) -> Record
         requires news { last_records (set.insert self.old given) ≢ self.old }
         requires there { IsSome (last self.old given.key) }
@@ -145,8 +146,8 @@ impl LastRecords {
         exchange(&mut self.by_key, given)
     }
 
-    /// Makes that the last record of the key, which has one; `None` leaves the key without one. It
-    /// takes no memory, so what `put` gave takes the `put` back.
+    /// Sets the last record of the key, which has one; `None` leaves the key without one. Takes no
+    /// memory, so a `put` can be undone with what it returned.
     pub fn put_back(&mut self, key: &Key, before: Option<Record>)
         requires there { IsSome (last self.old key.now) }
         requires of_key { IfSome before (λ r. r.key ≡ key.now) }
@@ -155,8 +156,8 @@ impl LastRecords {
         replace(&mut self.by_key, key, before);
     }
 
-    /// Removes the record, where it is the last of its key: the key then has none. Any other record
-    /// changes nothing. It takes no memory.
+    /// Removes the record if it is the last of its key, which then has none. Any other record
+    /// changes nothing. Takes no memory.
     pub fn remove(&mut self, given: &Record)
         ensures removed { self.new ≡ set.remove self.old given.now }
         ensures lasts { LosesAtMost given.now self.old self.new }
@@ -167,7 +168,8 @@ impl LastRecords {
         }
     }
 
-    /// The records, one a key, by the derived order of keys. The only error is out of memory.
+    /// Lists the records, one for each key, by the derived order of keys. The only error is out of
+    /// memory.
     pub fn records(&self, alloc: Global) -> Result<Vec<&Record>, AllocError>
         ensures all { IfOk result (λ found. self.now
             ≡ set.from_list (map (λ r. r.now) found.items)) }
@@ -178,7 +180,7 @@ impl LastRecords {
         Ok(found)
     }
 
-    /// That the set is one of last records, which costs nothing at run time.
+    /// Proves that compacting the set changes nothing. It costs nothing at run time.
     pub fn is_compact(&self)
         ensures { last_records self.now ≡ self.now }
     {
@@ -186,7 +188,7 @@ impl LastRecords {
     }
 }
 
-/// Puts a copy of the record at its key, and gives the one before.
+/// Puts a copy of the record at its key, and returns the one before.
 fn insert_copy(
     by_key: &mut BTreeMap<Key, Record>,
     given: &Record,
@@ -201,7 +203,7 @@ fn insert_copy(
     Ok(by_key.insert(key, last)?)
 }
 
-/// Puts the record at its key, which has one, and gives that one.
+/// Puts the record at its key, which has one, and returns that one.
 fn exchange(by_key: &mut BTreeMap<Key, Record>, given: Record) -> Record
     requires { IsSome (last_at by_key.old given.key) }
     ensures put { Updates key_cmp by_key.old by_key.new given.key (Some given) }
@@ -214,7 +216,7 @@ fn exchange(by_key: &mut BTreeMap<Key, Record>, given: Record) -> Record
     }
 }
 
-/// Makes that the record of the key, which has one; `None` leaves it without one.
+/// Sets the record of the key, which has one; `None` leaves the key without one.
 fn replace(by_key: &mut BTreeMap<Key, Record>, key: &Key, given: Option<Record>)
     requires { IsSome (last_at by_key.old key.now) }
     ensures replaced { Updates key_cmp by_key.old by_key.new key.now given }
@@ -232,7 +234,7 @@ fn replace(by_key: &mut BTreeMap<Key, Record>, key: &Key, given: Option<Record>)
     }
 }
 
-/// Whether the first of two records of one key is the older one.
+/// Returns whether the first of two records of one key is the older one.
 fn is_older(one: &Record, other: &Record) -> bool
     ensures { result ≡ is_lt (age_cmp one.now other.now) }
 {

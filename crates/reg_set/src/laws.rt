@@ -6,7 +6,8 @@ ghost use Rattle.reg_set.specs.RecordOrder.{age_cmp, key_cmp, record_cmp};
 ghost use Rattle.reg_set.specs.Records.{ListsInOrderAreAll};
 ghost use Rattle.reg_set.specs.Join.{LastIsGreatest, NoLastIsNoRecord, LastOfLastRecords, MergingIsCommutative, MergingIsAssociative, MergingIsIdempotent, LastOfUnion, LastOfPart, KeepingLastsUnites, EachKeepsItsLasts, KeepingLastsComposes, DropsKeepLasts, LastRecordsKeepLasts, LastRecordsOfPart, LastRecordsOfInsert, LastRecordsOfUnion};
 
-/// Records, and records of one key, are totally ordered, and only equal records tie.
+/// Proves that records, the records of one key, and keys are totally ordered, and that only equal
+/// records and equal keys tie.
 pub fn records_are_ordered()
     ensures all { IsTotalOrder record_cmp }
     ensures apart { IsAntisymmetric record_cmp }
@@ -15,19 +16,20 @@ pub fn records_are_ordered()
     ensures keys_apart { IsAntisymmetric key_cmp }
 {}
 
-/// A list in order has the records of its set as they are listed: there is no other such list.
+/// Proves that the records of a set in order are the only ordered list of that set.
 pub fn records_are_listed_in_order()
     ensures { ListsInOrderAreAll }
 {}
 
-/// The last record of a key is the greatest of its records.
+/// Proves that the last record of a key is the greatest of its records, and that a key without a
+/// last record has none.
 pub fn last_is_greatest()
     ensures greatest { LastIsGreatest }
     ensures none { NoLastIsNoRecord }
 {}
 
-/// Merging sets of records is commutative, associative and idempotent, and the last record of a
-/// key in a merged set is the greater of the two last ones.
+/// Proves that merging sets of records is commutative, associative and idempotent, and that the
+/// last record of a key in a merged set is the greater of the two last ones.
 pub fn merging_joins_sets()
     ensures commutative { MergingIsCommutative }
     ensures associative { MergingIsAssociative }
@@ -35,7 +37,7 @@ pub fn merging_joins_sets()
     ensures last { LastOfUnion }
 {}
 
-/// A set and each part that keeps its last records have the same last ones.
+/// Proves that a set and each subset that keeps its last records have the same last records.
 pub fn last_records_are_enough()
     ensures last_of_last { LastOfLastRecords }
     ensures last { LastOfPart }
@@ -43,15 +45,16 @@ pub fn last_records_are_enough()
     ensures last_records { LastRecordsOfPart }
 {}
 
-/// Records may be added to a part that keeps the last ones in place of the whole set.
+/// Proves that records may be added to a subset that keeps the last records instead of the whole
+/// set.
 pub fn last_records_of_unions()
     ensures union { KeepingLastsUnites }
     ensures last_records { LastRecordsOfUnion }
     ensures insert { LastRecordsOfInsert }
 {}
 
-/// A set keeps its last records, a part of a part that keeps them keeps them, and what is left without
-/// some records keeps them exactly where none of them is a last one.
+/// Proves that a set keeps its last records, that a subset of a subset that keeps them keeps them,
+/// and that dropping records keeps them exactly if none of the dropped is a last one.
 pub fn keeping_lasts_composes()
     ensures itself { EachKeepsItsLasts }
     ensures across { KeepingLastsComposes }

@@ -15,8 +15,8 @@ use crate::record_set::TakeOutcome;
 use reg_records::{Key, Record};
 use std::alloc::AllocError;
 
-/// Takes the record in among those of its key, and says what that did. The only error is out of
-/// memory; they are then as they were.
+/// Adds the record to those of its key, and returns what that did. The only error is out of memory;
+/// the records are then unchanged.
 pub(crate) fn take_among(
     records: &mut Vec<Record>,
     given: &Record,
@@ -42,7 +42,7 @@ pub(crate) fn take_among(
     Ok(TakeOutcome::Older)
 }
 
-/// Leaves the last of the records alone. It takes no memory.
+/// Removes all records but the last. Takes no memory.
 pub(crate) fn leave_last(records: &mut Vec<Record>)
     ensures { records.new.items ≡ last_alone records.old.items }
 {

@@ -9,7 +9,7 @@ ghost use Rattle.reg_set.specs.Records.{is_in_order};
 use reg_records::Record;
 use std::cmp::Ordering;
 
-/// By offset, then no value before a text, then by the text's bytes.
+/// Compares records of one key: by offset, then no value before a text, then by the text's bytes.
 pub(crate) fn compare(one: &Record, other: &Record) -> Ordering
     ensures { result ≡ age_cmp one.now other.now }
 {
@@ -19,7 +19,7 @@ pub(crate) fn compare(one: &Record, other: &Record) -> Ordering
     }
 }
 
-/// How many of the records, which are of one key with that one and stand in order, stand before it.
+/// Returns how many of the records, which are of that record's key and in order, come before it.
 pub(crate) fn count_before(records: &[Record], given: &Record) -> usize
     requires { AreOf given.now.key records.now }
     ensures within { result ≤ length records.now }
@@ -45,7 +45,7 @@ pub(crate) fn count_before(records: &[Record], given: &Record) -> usize
     low
 }
 
-/// Whether the record is among the records, which stand in order, at its place.
+/// Returns whether the record is among the records, which are in order, at its place.
 pub(crate) fn stands_at(records: &[Record], place: usize, given: &Record) -> bool
     requires in_order { IsTrue (is_in_order records.now) }
     requires before { list_all (λ q. is_lt (record_cmp q given.now)) (take place records.now) ≡ true }
@@ -58,7 +58,7 @@ pub(crate) fn stands_at(records: &[Record], place: usize, given: &Record) -> boo
     }
 }
 
-/// Whether the record is among the records, which are of its key and stand in order.
+/// Returns whether the record is among the records, which are of its key and in order.
 pub(crate) fn is_among(records: &[Record], given: &Record) -> bool
     requires { AreOf given.now.key records.now }
     ensures { result ≡ list_any (eq_by_cmp record_cmp given.now) records.now }

@@ -21,12 +21,12 @@ use std::alloc::{AllocError, Global};
 use std::collections::BTreeMap;
 use std::marker::Model;
 
-/// What taking a record did to a set.
+/// The outcome of taking a record into a set.
 #[derive(Clone, Copy, Debug, PartialEq, Eq)]
 pub enum TakeOutcome {
     /// The record is now the last of its key, and wasn't before.
     Fresh,
-    /// The record was in the set.
+    /// The record was already in the set.
     Repeat,
     /// The record is new, and its key has a later one.
     Older,
@@ -35,7 +35,8 @@ pub enum TakeOutcome {
 /// A finite set of records.
 ///
 /// Records of one key are ordered by offset, then no value before a text, then by the text's bytes.
-/// The greatest is the last record of the key; a last record without a value deletes the key.
+/// The greatest is the last record of the key; a last record without a value (a tombstone) deletes
+/// the key.
 #[derive(Debug, Drop)]
 pub struct RecordSet {
     alloc: Global,
@@ -70,7 +71,7 @@ impl Clone for RecordSet {
 }
 
 impl RecordSet {
-    /// The empty set.
+    /// Makes the empty set.
     pub fn new(alloc: Global) -> RecordSet
         ensures empty { result ≡ set.empty }
         ensures no_records { records_of result ≡ [] }
@@ -81,7 +82,7 @@ impl RecordSet {
         }
     }
 
-    /// The set of those records. The only error is out of memory.
+    /// Makes the set of those records. The only error is out of memory.
     pub fn of(alloc: Global, records: &[Record]) -> Result<RecordSet, AllocError>
         ensures { IfOk result (λ found. found ≡ set.from_list records.now) }
     {
@@ -89,8 +90,8 @@ impl RecordSet {
         set_of(alloc, found)
     }
 
-    /// Adds the record, and says what that did. The only error is out of memory; the set is then
-    /// as it was.
+    /// Adds the record, and returns what that did. The only error is out of memory; the set is then
+    /// unchanged.
     pub fn take(&mut self, given: &Record) -> Result<TakeOutcome, AllocError>
         ensures added { OnOk result (self.new ≡ set.insert self.old given.now) }
         ensures fresh { IfOk result (λ taken.
@@ -103,7 +104,7 @@ impl RecordSet {
         Ok(taken)
     }
 
-    /// The last record of the key: the greatest of its records.
+    /// Returns the last record of the key: the greatest of its records.
     pub fn last(&self, key: &Key) -> Option<&Record>
         ensures { option_map (λ found. found.now) result ≡ last self.now key.now }
     {
@@ -113,7 +114,7 @@ impl RecordSet {
         }
     }
 
-    /// The last record of each key. The only error is out of memory.
+    /// Collects the last record of each key. The only error is out of memory.
     pub(crate) fn lasts(&self) -> Result<LastRecords, AllocError>
         ensures { IfOk result (λ lasts. lasts ≡ last_records self.now) }
     {
@@ -121,7 +122,8 @@ impl RecordSet {
         Ok(found)
     }
 
-    /// The last record of each key, by the derived order of keys. The only error is out of memory.
+    /// Lists the last record of each key, by the derived order of keys. The only error is out of
+    /// memory.
     pub fn last_of_each(&self) -> Result<Vec<&Record>, AllocError>
         ensures { IfOk result (λ found. KeepsLasts (set.from_list (map (λ r. r.now) found.items)) self.now) }
     {
@@ -129,8 +131,9 @@ impl RecordSet {
         Ok(found)
     }
 
-    /// Copies of the records, each once: by offset, then by the text that is written for the key, by
-    /// bytes, then no value before a text, then by the text's bytes. The only error is out of memory.
+    /// Copies the records, each once: by offset, then by the bytes of the text that is written for
+    /// the key, then no value before a text, then by the text's bytes. The only error is out of
+    /// memory.
     pub fn records(&self) -> Result<Vec<Record>, AllocError>
         ensures all { IfOk result (λ found. found.items ≡ records_of self.now) }
         ensures in_order { IfOk result (λ found. IsTrue (is_in_order found.items)) }
@@ -141,7 +144,7 @@ impl RecordSet {
         Ok(listed)
     }
 
-    /// Whether the record is in the set.
+    /// Returns whether the record is in the set.
     pub fn contains(&self, given: &Record) -> bool
         ensures { result ≡ set.contains self.now given.now }
     {
@@ -151,8 +154,8 @@ impl RecordSet {
         }
     }
 
-    /// Adds the records of the other set. The only error is out of memory; the set is then as it
-    /// was.
+    /// Adds the records of the other set. The only error is out of memory; the set is then
+    /// unchanged.
     pub fn merge(&mut self, other: &RecordSet) -> Result<(), AllocError>
         ensures merged { OnOk result (self.new ≡ set.union self.old other.now) }
         ensures lasts { OnOk result
@@ -165,7 +168,8 @@ impl RecordSet {
         Ok(())
     }
 
-    /// Leaves the last record of each key alone, those without a value too.
+    /// Removes all records but the last of each key. Tombstones (last records without a value)
+    /// stay.
     pub fn compact(&mut self)
         ensures left { self.new ≡ last_records self.old }
         ensures lasts { (key : Key) → last self.new key ≡ last self.old key }
@@ -175,7 +179,7 @@ impl RecordSet {
     }
 }
 
-/// The set of those records. The only error is out of memory.
+/// Makes the set of those records. The only error is out of memory.
 fn set_of(alloc: Global, records: Vec<&Record>) -> Result<RecordSet, AllocError>
     ensures { IfOk result (λ found. found ≡ set.from_list (map (λ r. r.now) records.entry.items)) }
 {
@@ -189,8 +193,8 @@ fn set_of(alloc: Global, records: Vec<&Record>) -> Result<RecordSet, AllocError>
     Ok(found)
 }
 
-/// Whether `part` is a part of `whole` that keeps the last record of each key of `whole`. It takes no
-/// memory.
+/// Returns whether `part` is a subset of `whole` that keeps the last record of each key of `whole`.
+/// Takes no memory.
 pub fn keeps_lasts(part: &RecordSet, whole: &RecordSet) -> bool
     ensures { IsTrue result ↔ KeepsLasts part.now whole.now }
 {
@@ -210,7 +214,7 @@ fn has_lasts_of(part: &RecordSet, whole: &RecordSet) -> bool
     has_lasts_of_keys(&whole.by_key, part, whole)
 }
 
-/// Whether the part has the last record of the key in the whole set, if there is one.
+/// Returns whether the part has the last record of the key in the whole set, if there is one.
 pub(crate) fn has_last_of(part: &RecordSet, whole: &RecordSet, key: &Key) -> bool
     ensures { result ≡ option_map_or (set.contains part.now) (last whole.now key.now) true }
 {
@@ -220,8 +224,9 @@ pub(crate) fn has_last_of(part: &RecordSet, whole: &RecordSet, key: &Key) -> boo
     }
 }
 
-/// Whether `compaction` is a part of `whole` that has the last record of each key of `whole`, or no
-/// record of the key where that last one has no value and stands below `floor`. It takes no memory.
+/// Returns whether `compaction` is a subset of `whole` that has the last record of each key of
+/// `whole`, or no record of the key if that last one is a tombstone (has no value) below `floor`.
+/// Takes no memory.
 pub fn is_compaction_below(floor: u64, compaction: &RecordSet, whole: &RecordSet) -> bool
     ensures { IsTrue result ↔ IsCompactionBelow floor compaction.now whole.now }
 {
@@ -235,8 +240,8 @@ fn has_lasts_below(floor: u64, part: &RecordSet, whole: &RecordSet) -> bool
     are_kept_or_gone(&whole.by_key, floor, part, whole)
 }
 
-/// Whether the part has the last record of the key in the whole set, if there is one, or the key is
-/// gone.
+/// Returns whether the part has the last record of the key in the whole set, if there is one, or
+/// that record is a tombstone below the floor and the part has none of the key.
 pub(crate) fn has_last_or_none(floor: u64, part: &RecordSet, whole: &RecordSet, key: &Key) -> bool
     ensures { result ≡ option_map_or (is_kept_or_gone floor part.now) (last whole.now key.now) true }
 {
@@ -246,8 +251,8 @@ pub(crate) fn has_last_or_none(floor: u64, part: &RecordSet, whole: &RecordSet, 
     }
 }
 
-/// Whether the part has the record, or that one deletes its key below the floor, and the part has
-/// none of the key.
+/// Returns whether the part has the record, or the record is a tombstone below the floor and the
+/// part has none of the key.
 fn is_kept_or_gone(floor: u64, part: &RecordSet, given: &Record) -> bool
     ensures { result ≡ is_kept_or_gone floor part.now given.now }
 {

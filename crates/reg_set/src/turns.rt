@@ -11,7 +11,7 @@ use crate::with_text::{WithText, with_texts, without_texts};
 use reg_records::Record;
 use std::alloc::{AllocError, Global};
 
-/// Puts records, of which none stands twice, in the order of a set. The only error is out of memory.
+/// Sorts distinct records into the order of a set. The only error is out of memory.
 pub(crate) fn put_in_order(alloc: Global, records: Vec<Record>) -> Result<Vec<Record>, AllocError>
     requires { IsDistinct (eq_by_cmp record_cmp) records.items }
     ensures moved { IfOk result (λ found. IsPermutation records.items found.items) }
@@ -29,7 +29,7 @@ pub(crate) fn put_in_order(alloc: Global, records: Vec<Record>) -> Result<Vec<Re
     Ok(found)
 }
 
-/// Puts the records in order by offset, then by value.
+/// Sorts the records by offset, then by value.
 fn put_by_age(records: &mut Vec<Record>)
     ensures moved { IsPermutation records.old.items records.new.items }
     ensures sorted { IsSortedBy (λ a b. is_lt (age_cmp a b)) records.new.items }
@@ -37,7 +37,7 @@ fn put_by_age(records: &mut Vec<Record>)
     records.sort_unstable_by(|one, other| compare(one, other));
 }
 
-/// Puts the records in the order of a set, but for equal ones.
+/// Sorts the records into the order of a set.
 fn put_by_text(written: &mut Vec<WithText>)
     ensures moved { IsPermutation written.old.items written.new.items }
     ensures sorted { IsSortedBy (λ a b. is_lt (record_cmp a b)) written.new.items }
@@ -45,7 +45,7 @@ fn put_by_text(written: &mut Vec<WithText>)
     written.sort_unstable_by(|one, other| one.compare(other));
 }
 
-/// Whether each record stands at a lower offset than the next, or is of its key.
+/// Returns whether each record has a lower offset than the next, or the same key.
 fn has_one_key_at_each(records: &[Record]) -> bool
     ensures { IsAllAdjacentAnswer (λ a b answer. answer
         ≡ (nat_lt a.offset b.offset || is_eq (key_cmp a.key b.key))) records.now result }
@@ -59,8 +59,8 @@ fn are_apart(one: &Record, next: &Record) -> bool
     one.offset < next.offset || one.key == next.key
 }
 
-/// Puts the records in an order in which a set is made of them without moving any: each comes after
-/// all earlier ones of its key.
+/// Sorts the records so that a set is made of them without moving any: each comes after all earlier
+/// ones of its key.
 pub(crate) fn put_in_turn(records: &mut Vec<&Record>)
     ensures { IsPermutation records.old.items records.new.items }
 {

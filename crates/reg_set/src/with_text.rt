@@ -32,7 +32,7 @@ impl Model for WithText {
 }
 
 impl WithText {
-    /// The only error is out of memory.
+    /// Writes the text of the record's key. The only error is out of memory.
     fn of(alloc: Global, given: Record) -> Result<WithText, AllocError>
         ensures { IfOk result (λ made. made ≡ given) }
     {
@@ -40,7 +40,8 @@ impl WithText {
         Ok(WithText { text, given })
     }
 
-    /// By offset, then by the text of the key, then no value before a text, then by the text's bytes.
+    /// Compares by offset, then by the key's text, then no value before a text, then by the text's
+    /// bytes.
     pub(crate) fn compare(&self, other: &WithText) -> Ordering
         ensures { result ≡ record_cmp self.now other.now }
     {
@@ -78,7 +79,7 @@ impl WithText {
     }
 }
 
-/// The records with the texts of their keys. The only error is out of memory.
+/// Writes the text of each record's key. The only error is out of memory.
 pub(crate) fn with_texts(alloc: Global, records: Vec<Record>) -> Result<Vec<WithText>, AllocError>
     ensures { IfOk result (λ found. found.items ≡ records.items) }
 {
@@ -89,7 +90,7 @@ pub(crate) fn with_texts(alloc: Global, records: Vec<Record>) -> Result<Vec<With
     Ok(found)
 }
 
-/// The records alone. The only error is out of memory.
+/// Returns the records alone. The only error is out of memory.
 pub(crate) fn without_texts(
     alloc: Global,
     written: Vec<WithText>,

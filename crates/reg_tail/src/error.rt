@@ -4,18 +4,19 @@ use std::alloc::{AllocError, AllocFailed};
 use std::error::Error;
 use std::fmt;
 
-/// Why a file isn't followed any more.
+/// An error that ends the following of a file.
 #[derive(Clone, Copy, Debug, PartialEq, Eq)]
 pub enum TailError {
     /// The first line of the file that has a fault; lines count from 1.
     Line { line: u64, fault: LogFault },
-    /// The file's lines end without an empty line.
+    /// The file has no empty line behind its lines.
     NoEmptyLine,
-    /// The file's floor is above the offset from which it would go on: lines from there on may be missing.
+    /// The file's floor, which is given, is above the offset to go on from: lines from there on may
+    /// be missing.
     Floor(u64),
-    /// A read failed, or the file isn't there.
+    /// A read failed, or the file doesn't exist.
     ReadFault,
-    /// A sync failed: a crash might take back lines that were read.
+    /// A sync failed: a crash might take back lines that were read. Those weren't written out.
     SyncFault,
     /// The writer failed. A part of the last text may have been written.
     WriteFault,
@@ -26,7 +27,8 @@ impl TailError {
     ghost use Rattle.std.specs.Prelude.{◌≡◌};
     ghost use Rattle.reg_tail.specs.Errors.{exit_status};
 
-    /// The exit status of a program that ends with it.
+    /// Returns the exit status of a program that ends with this error: 2 for a fault of the file's
+    /// lines or floor, 1 for the others.
     pub fn status(self) -> u8
         ensures { result ≡ exit_status self }
     {

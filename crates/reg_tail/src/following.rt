@@ -21,9 +21,10 @@ use std::time::{Clock, Duration};
 /// Milliseconds between two looks at the file.
 const PAUSE: u64 = 20;
 
-/// Writes the lines of the file of that path from an offset on, and then those that are appended, each batch within 50 ms.
-/// It goes on in a file that takes this one's place, from the offset behind the lines that it has passed. It ends only by
-/// an error. No offset, or 0, asks for the whole file.
+/// Follows the file of a path: writes its lines from an offset on, and then those that are
+/// appended. Looks every 20 ms. If another file takes its name, it goes on there from the offset
+/// behind the lines that it has passed. `None` or 0 asks for the whole file. Returns only with an
+/// error.
 pub fn follow_file<R: Wait + Clock + Files<File = File>, W: Output>(
     rt: &R,
     alloc: Global,
@@ -37,7 +38,8 @@ pub fn follow_file<R: Wait + Clock + Files<File = File>, W: Output>(
     }
 }
 
-/// Writes the lines of a file from an offset on, and then what each look finds, for as long as none fails.
+/// Follows a source: writes its lines from an offset on, and then what each look finds, every 20
+/// ms. Returns only with an error.
 pub fn follow<R: Wait + Clock, S: Source, W: Output>(
     rt: &R,
     alloc: Global,
@@ -58,8 +60,9 @@ pub fn follow<R: Wait + Clock, S: Source, W: Output>(
     unreachable!()
 }
 
-/// Writes what was appended since the last look. Where another file has the name by now, it writes what was left of this
-/// one, and then the lines of the other from the offset behind those; and says so.
+/// Writes what was appended since the last look. If another file has the name by now, writes the
+/// rest of the old one, and then the other's lines from the offset behind those. Returns whether
+/// the file was replaced.
 pub fn write_look<S: Source, W: Output>(
     alloc: Global,
     tail: &mut Tail,
@@ -82,7 +85,8 @@ pub fn write_look<S: Source, W: Output>(
     Ok(is_replaced)
 }
 
-/// Writes the lines of a file from an offset on, once they are synced, and flushes them.
+/// Reads a file from its start, syncs it, writes its lines from an offset on, and flushes them.
+/// Returns the tail behind them. After an error other than `WriteFault` nothing was written.
 pub fn write_begun<S: Source, W: Output>(
     alloc: Global,
     source: &mut S,
@@ -106,7 +110,8 @@ pub fn write_begun<S: Source, W: Output>(
     }
 }
 
-/// Writes the lines that were appended since, once they are synced, and flushes them.
+/// Reads the lines that were appended since, syncs the file, writes them, and flushes. After an
+/// error other than `WriteFault` nothing was written, and the tail is as it was.
 pub fn write_more<S: Source, W: Output>(
     alloc: Global,
     tail: &mut Tail,
@@ -131,7 +136,7 @@ pub fn write_more<S: Source, W: Output>(
     }
 }
 
-/// Whether another file has the name of this one.
+/// Returns whether another file has this one's name.
 fn is_replaced<S: Source>(source: &mut S) -> Result<bool, TailError>
     ensures seen { S.known source.old → S.known source.new × (S.seen source.new ≡ S.seen source.old) }
     ensures left { S.known source.old → S.left source.new ≡ S.left source.old }
@@ -144,7 +149,7 @@ fn is_replaced<S: Source>(source: &mut S) -> Result<bool, TailError>
     }
 }
 
-/// Goes over to the file that has the name of this one.
+/// Opens the file that has this one's name now.
 fn reopen<S: Source>(source: &mut S) -> Result<(), TailError>
     ensures known { S.known source.old → OnOk result (S.known source.new) }
     ensures refused { IfErr result IsNoReading }
@@ -155,7 +160,7 @@ fn reopen<S: Source>(source: &mut S) -> Result<(), TailError>
     Ok(())
 }
 
-/// What an error of a file makes of following it.
+/// Turns an error of the file into one of following it.
 pub(crate) fn fault_of(error: DiskError) -> TailError
     ensures { IsNoReading result }
 {

@@ -7,15 +7,15 @@ use reg_records::{LineError, LogFault, is_floor_line, line_len, read_floor};
 /// The line of a log's floor.
 #[derive(Clone, Copy, Debug, PartialEq, Eq)]
 pub(crate) struct Front {
-    /// How many bytes it takes with its LF; 0 where the log has none.
+    /// Its length in bytes, with its LF; 0 if the log has none.
     pub len: usize,
-    /// How many lines it is: one or none.
+    /// Its number of lines: one or none.
     pub lines: u64,
-    /// The floor; 0 where no line says one.
+    /// The floor; 0 if no line says one.
     pub floor: u64,
 }
 
-/// The line of the floor at the front of a file.
+/// Reads the line of the floor at the front of a file, if there is one.
 pub(crate) fn front_of(file: &[u8]) -> Result<Front, LogFault>
     ensures front { IfOk result (BeginsAs file.now) }
     ensures fault { IfErr result (HasFloorFault file.now) }

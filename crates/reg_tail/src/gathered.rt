@@ -29,7 +29,8 @@ impl Gathered {
         Ok(gathered)
     }
 
-    /// Takes the line at the front of a text, and gives its length with its LF; none where an empty line stands there.
+    /// Takes the line at the front of a text. Returns its length in bytes, with its LF; `None` at
+    /// an empty line.
     fn take_front(&mut self, alloc: Global, text: &[u8]) -> Result<Option<usize>, TailError>
         ensures within { IfOk result (λ found. IfSome found (λ n. (0 < n) × (n ≤ length text.now))) }
         ensures taken { IfOk result (λ found. MatchOption found

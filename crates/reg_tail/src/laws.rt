@@ -1,9 +1,10 @@
 // What the clauses say together.
 ghost use Rattle.reg_tail.specs.Looks.{AllIsGivenFromZero, LooksGiveTheFile, PassedLinesAreNotGivenAgain, PassedLinesStand};
 
-/// The texts of `begin` and then of `more`, one behind the other, over a file whose lines stand, are the lines of the whole
-/// file from that offset on; from 0 on, its bytes. A file in which its lines stand has all that was passed: so does each
-/// that a crash leaves after a sync. In a file that took its place, no line is given again.
+/// States that the texts of `begin` and then of `more` are together the file's lines from the
+/// offset on (from 0 on, its bytes), if its lines stay; that what was passed outlives each crash
+/// after a sync; and that no line is given again in a file that takes its place. Costs nothing at
+/// run time.
 pub fn looks_give_the_file()
     ensures given { LooksGiveTheFile }
     ensures all { AllIsGivenFromZero }

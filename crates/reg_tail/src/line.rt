@@ -6,8 +6,8 @@ use crate::error::TailError;
 use reg_records::{LOG_LINES, LineError, LogFault, Read, ReadLineError, line_len, read_line};
 use std::alloc::Global;
 
-/// The line of that number, at the front of a text: how many bytes it takes with its LF, and what it says; none where
-/// an empty line stands there.
+/// Reads the line of that number at the front of a text. Returns its length in bytes, with its LF,
+/// and what it says; `None` at an empty line.
 pub(crate) fn line_at(
     alloc: Global,
     number: u64,

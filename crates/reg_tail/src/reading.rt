@@ -15,8 +15,9 @@ use reg_journal::DiskError;
 use std::alloc::Global;
 
 impl Tail {
-    /// Reads a file from its beginning. The text is the lines from that offset on, each with its LF; from 0 on it is all
-    /// lines, that of the floor among them. A floor above another offset is an error.
+    /// Reads a file from its start and syncs it. Returns the tail behind its lines and the text of
+    /// those from an offset on, each with its LF; from 0 on all lines, the floor's too. If the
+    /// floor is above another offset than 0, the error is `Floor`.
     pub fn begin<S: Source>(
         alloc: Global,
         source: &mut S,
@@ -39,8 +40,9 @@ impl Tail {
         Ok((tail, text))
     }
 
-    /// Reads what was appended since. The text is those lines from its offset on, each with its LF; none where there are
-    /// none. At `Err` the tail stands where it stood. A line that says a floor has a fault: none is appended.
+    /// Reads the lines that were appended since and syncs the file. Returns their text from the
+    /// tail's offset on, each with its LF; empty if nothing was appended. After an error the tail
+    /// is as it was. An appended line that says a floor is a fault.
     pub fn more<S: Source>(&mut self, alloc: Global, source: &mut S) -> Result<Vec<u8>, TailError>
         ensures given { S.known source.old → IfOk result (λ text. GoesOn (S.seen source.new) self.old self.new text.items) }
         ensures whole { S.known source.old → (before : List ℕ) → HasGiven self.old (S.seen source.old) before

@@ -8,7 +8,7 @@ use std::fs::{File, Files, OpenOptions};
 use std::io::{self, ErrorKind, Read, Seek, SeekFrom};
 use std::os::unix::fs::MetadataExt;
 
-/// A file under a path that another process writes, open for reading.
+/// A file of the system that another process writes, open for reading.
 #[derive(Drop)]
 pub struct StoredTail<'a, R: Files<File = File>> {
     files: &'a R,
@@ -20,7 +20,7 @@ pub struct StoredTail<'a, R: Files<File = File>> {
 }
 
 impl<'a, R: Files<File = File>> StoredTail<'a, R> {
-    /// The file that stands under a path now.
+    /// Opens the file that has this path now, for reading.
     pub fn open(files: &'a R, path: &'a str) -> Result<StoredTail<'a, R>, DiskError> {
         let mut how = OpenOptions::new();
         how.read(true);

@@ -6,16 +6,17 @@ ghost use Rattle.reg_tail.specs.declared.error.TailError.TheVariants.{ReadFault}
 use crate::error::TailError;
 use reg_records::{LOG_LINES, OFFSET_LIMIT};
 
-/// Where a reader of a file stands.
+/// A reader's position in a file: what it needs to read on.
 #[derive(Clone, Copy, Debug, PartialEq, Eq)]
 pub struct Tail {
-    /// Where the file's empty line stood when it was read last.
+    /// The place of the file's empty line at the last read, in bytes from the file's start.
     pub place: usize,
-    /// How many lines stand before it.
+    /// The number of lines before it, up to `LOG_LINES`.
     pub lines: u64,
     /// The offset from which this file's lines are given.
     pub from: u64,
-    /// The offset from which a file in its place is to be given: the log's next one, or `from` where that is greater.
+    /// The offset from which a file that takes this one's place is given: the log's next one, or
+    /// `from` if that is greater.
     pub next: u64,
     pub ghost few: { lines ≤ LOG_LINES },
 }

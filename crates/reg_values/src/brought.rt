@@ -14,8 +14,8 @@ use reg_level_names::Level;
 use reg_records::{Key, NUMBER_LIMIT, Value, ValueText};
 use std::alloc::{AllocError, Global};
 
-/// What a text says under that key, taken from the value that it brings along; `None` where it brings
-/// none, or one of another key, or a text that is no schema. The only error is out of memory.
+/// Decodes a text under that key from the value that it brings along. `None` if it brings no value,
+/// one of another key, or a schema's text that isn't a schema. The only error is out of memory.
 pub(crate) fn decode_brought(
     alloc: Global,
     key: &Key,
@@ -32,7 +32,7 @@ pub(crate) fn decode_brought(
     }
 }
 
-/// A value with the normal text of its schema; `None` where its text is no schema.
+/// Adds the normal text of its schema to a value; `None` if its text isn't a schema.
 fn with_normal(
     alloc: Global,
     value: &Value,
@@ -61,7 +61,7 @@ fn with_normal(
     )
 }
 
-/// Whether a value may stand under that key, if its text is a schema.
+/// Returns whether a value may be written under that key, if its text is a schema.
 fn may_stand_under(key: &Key, value: &Value) -> bool
     ensures { IsTrue result → MayStandUnder key.now value.now }
 {

@@ -24,7 +24,7 @@ use reg_records::{
 use serde_json::Value as Json;
 use std::alloc::{AllocError, Global};
 
-/// A value and, where it is a version's, the normal text of its schema.
+/// A decoded value and, for a version, the normal text of its schema.
 #[derive(Drop)]
 pub struct Decoded {
     pub value: Value,
@@ -39,15 +39,16 @@ impl Decoded {
     }
 }
 
-/// The value that a record's text gives; `None` for a record without text, and for one whose text
-/// can't be read as a value of its key. The only error is out of memory.
+/// Decodes the value of a record; `None` if the record has no text, or one that isn't a value of
+/// its key. The only error is out of memory.
 pub fn decode_value(alloc: Global, given: &Record) -> Result<Option<Value>, AllocError>
     ensures { IfOk result (λ value. value ≡ value_of given.now) }
 {
     Ok(decode(alloc, given, None)?.map(Decoded::into_value))
 }
 
-/// The same, with the normal text of a version's schema. A schema's text whose normal text is known isn't read.
+/// Decodes the value like [`decode_value`], with the normal text of a version's schema. If `known`
+/// has the normal text of the schema's text, the schema isn't parsed.
 pub fn decode(
     alloc: Global,
     given: &Record,
@@ -62,7 +63,7 @@ pub fn decode(
     }
 }
 
-/// What a text says under that key; a NOOP's may be any text.
+/// Decodes a text under that key; any text is a value of a NOOP.
 fn decode_text(
     alloc: Global,
     key: &Key,
@@ -80,7 +81,7 @@ fn decode_text(
     read_text(alloc, key, text, &known)
 }
 
-/// What a text says under that key, read from the text.
+/// Decodes a text under that key by parsing it.
 fn read_text(
     alloc: Global,
     key: &Key,
@@ -149,14 +150,14 @@ fn decode_schema(
     decode_version(alloc, subject, version, id, text, deleted, known)
 }
 
-/// Whether the members name that version of the subject.
+/// Returns whether the members name that version of the subject.
 fn is_about_version(json: &Json, subject: &Text, version: u32) -> bool
     ensures { result ≡ (has_text_at (codes "subject") subject.now (view json.now) && has_number_at (codes "version") version (view json.now)) }
 {
     has_text_at(json, "subject", subject.as_str()) && has_number_at(json, "version", version)
 }
 
-/// A version's value with its schema's normal text; `None` where its text is no schema.
+/// Decodes a version's value, with its schema's normal text; `None` if the text isn't a schema.
 pub(crate) fn decode_version(
     alloc: Global,
     subject: &Text,
@@ -184,10 +185,11 @@ pub(crate) fn decode_version(
     }))
 }
 
-/// The normal text of the schema that a text means, which is the text itself where the two are equal; `None` where it means none.
+/// Returns the normal text of the schema in a text, which is the text itself if the two are equal;
+/// `None` if the text isn't a schema.
 ///
-/// It is a copy, made after all that reading the schema took was given back: the first one stands in
-/// the midst of that, and would keep the memory round it from being used again.
+/// It is a copy, made after parsing has freed its memory: the original lies amid that memory, and
+/// would keep the memory around it from being reused.
 fn normal_of(
     alloc: Global,
     text: &Text,
@@ -205,7 +207,7 @@ fn normal_of(
     }
 }
 
-/// The normal text of that text, where it is known.
+/// Returns the normal text of that text, if it is known.
 fn known_normal<'a>(known: &Option<KnownNormal<'a>>, text: &Text) -> Option<&'a Text>
     ensures { IfSome result (λ normal. normal_of text.now ≡ Some normal.now) }
 {
@@ -221,7 +223,7 @@ fn decode_config(alloc: Global, json: &Json) -> Result<Option<Decoded>, AllocErr
     }
 }
 
-/// The name of a level, whatever the case of its letters.
+/// Returns the name of a level, in any case of its letters.
 fn level_at(json: &Json) -> Option<&str>
     ensures { option_map (λ text. text.now) result ≡ text_where is_level (codes "compatibilityLevel") (view json.now) }
 {
@@ -266,7 +268,7 @@ fn decode_id_mark(json: &Json) -> Option<Decoded>
     }
 }
 
-/// A value that is no version's.
+/// Wraps a value that isn't a version's.
 pub(crate) fn without_normal(value: Value) -> Decoded
     requires { normal_in value ≡ None }
     ensures { result ≡ with_normal value }
@@ -277,8 +279,8 @@ pub(crate) fn without_normal(value: Value) -> Decoded
     }
 }
 
-/// Whether the members beside a schema's text leave it an Avro schema that stands alone: no other type,
-/// no references, no metadata, no rules.
+/// Returns whether the members beside a schema's text leave it a self-contained Avro schema: no
+/// other type, no references, no metadata, no rules.
 pub fn is_plain_avro(json: &Json) -> bool
     ensures { result ≡ is_plain_avro (view json.now) }
 {
@@ -288,7 +290,7 @@ pub fn is_plain_avro(json: &Json) -> bool
         && is_absent(json.get("ruleSet"))
 }
 
-/// Whether a member is missing or null.
+/// Returns whether a member is missing or null.
 pub fn is_absent(member: Option<&Json>) -> bool
     ensures { result ≡ option_map_or is_null (option_map (λ json. view json.now) member.entry) true }
 {
@@ -298,7 +300,7 @@ pub fn is_absent(member: Option<&Json>) -> bool
     }
 }
 
-/// Whether a `schemaType` names Avro: it is missing, null or `AVRO`.
+/// Returns whether a `schemaType` names Avro: it is missing, null or `AVRO`.
 pub fn is_avro(member: Option<&Json>) -> bool
     ensures { result ≡ is_absent_or is_avro_name (option_map (λ json. view json.now) member.entry) }
 {
@@ -308,7 +310,7 @@ pub fn is_avro(member: Option<&Json>) -> bool
     }
 }
 
-/// Whether a member is missing, null or the empty list.
+/// Returns whether a member is missing, null or the empty list.
 pub fn has_no_items(member: Option<&Json>) -> bool
     ensures { result ≡ is_absent_or is_empty_list (option_map (λ json. view json.now) member.entry) }
 {
@@ -318,7 +320,7 @@ pub fn has_no_items(member: Option<&Json>) -> bool
     }
 }
 
-/// Whether a value is the empty list.
+/// Returns whether a value is the empty list.
 pub fn is_empty_list(json: &Json) -> bool
     ensures { result ≡ is_empty_list (view json.now) }
 {
@@ -328,7 +330,8 @@ pub fn is_empty_list(json: &Json) -> bool
     }
 }
 
-/// The member `deleted` of a value, false where it is missing or null; none where it is no truth value.
+/// Returns the member `deleted` of a value, false if it is missing or null; `None` if it isn't a
+/// boolean.
 pub fn deleted_in(json: &Json) -> Option<bool>
     ensures { result ≡ deleted_in (view json.now) }
 {
@@ -338,7 +341,7 @@ pub fn deleted_in(json: &Json) -> Option<bool>
     }
 }
 
-/// A written value is read again, under its key.
+/// Proves that a written value is read back under its key.
 pub fn written_values_read_back()
     ensures { (offset : ℕ) (k : Key) (v : Value) → IsValueOf k v
         → value_of (record { offset = offset; key = k; value = written_value v }) ≡ Some v }
@@ -346,13 +349,13 @@ pub fn written_values_read_back()
     compact_texts_read_back();
 }
 
-/// What is read under a key is of that key, and its numbers are within their limits: it may be
-/// written there again, save that a NOOP has no text.
+/// Proves that what is read under a key is a value of that key, with its numbers within their
+/// limits: it may be written there again, except that a NOOP has no text.
 pub fn values_are_of_keys()
     ensures { ValuesAreOfKeys }
 {}
 
-/// A record whose value was written for its key has a line.
+/// Proves that a record whose value was written for its key has a line.
 pub fn written_values_have_lines()
     ensures { (offset : ℕ) (k : Key) (v : Value) → offset ≤ OFFSET_LIMIT → IsInLimits k → IsValueOf k v
         → HasLine (record { offset = offset; key = k; value = written_value v }) }

@@ -2,6 +2,7 @@
 use crate::fault::KeepError;
 use clap::Error;
 use clap::error::ErrorKind;
+use log_arguments::EnvironmentError;
 use reg_base::BaseError;
 use reg_follow::FollowError;
 use reg_inspection::Obstacle;
@@ -44,6 +45,15 @@ pub(crate) fn misread<R: Eprint>(rt: &R, error: io::Error) -> io::Result<Finishe
     }
     rt.eprintln("error: the arguments are not UTF-8")?;
     Ok(Finished { status: 2 })
+}
+
+/// Reports why the environment can't be read.
+pub(crate) fn unset<R: Eprint>(rt: &R, error: EnvironmentError) -> io::Result<Finished> {
+    rt.eprintln(format_args!("error: {error}"))?;
+    match error {
+        EnvironmentError::NotText(_) => Ok(Finished { status: 2 }),
+        EnvironmentError::OutOfMemory => Ok(Finished { status: 1 }),
+    }
 }
 
 /// Reports why metrics can't be shown.

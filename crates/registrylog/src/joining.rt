@@ -17,12 +17,26 @@ use std::time::{Clock, Duration};
 /// How long an adapter may say nothing at a start before the operator is told, in seconds.
 const SILENT_FOR: u64 = 30;
 
+/// The microseconds of a second.
+const MICROSECONDS: u64 = 1_000_000;
+
+/// Returns how long nobody asks the store for news before the process does by itself; `None` for 0
+/// seconds, if it never does.
+pub(crate) fn checks_of(seconds: u64) -> Option<Duration> {
+    if seconds == 0 {
+        None
+    } else {
+        Some(Duration::from_secs(seconds))
+    }
+}
+
 /// The ports of the nodes.
 #[derive(Drop)]
 pub(crate) struct JoinPorts<'a, R: Drop> {
     rt: R,
     alloc: Global,
     place: Place,
+    every: Option<Duration>,
     board: &'a SharedBoard,
 }
 
@@ -31,12 +45,14 @@ impl<'a, R: Drop> JoinPorts<'a, R> {
         rt: R,
         alloc: Global,
         place: Place,
+        every: Option<Duration>,
         board: &'a SharedBoard,
     ) -> JoinPorts<'a, R> {
         JoinPorts {
             rt,
             alloc,
             place,
+            every,
             board,
         }
     }
@@ -49,7 +65,11 @@ impl<R: Net<Listener = TcpListener, Stream = TcpStream> + Eprint + Clock + Drop>
     }
 
     fn ready(&mut self, reached: u64) -> bool {
-        self.board.adapter.join(microseconds(&self.rt));
+        let every = match self.every {
+            Some(every) => every.as_secs().saturating_mul(MICROSECONDS),
+            None => 0,
+        };
+        self.board.adapter.join(microseconds(&self.rt), every);
         self.board.marks.listens.set(true);
         let _told = self
             .rt

@@ -27,17 +27,19 @@ mod replacing;
 mod telling;
 mod watching;
 
-use crate::ends::{Finished, joined, kept, misread, refused, tailed, told, unlocked, unshown};
+use crate::ends::{
+    Finished, joined, kept, misread, refused, tailed, told, unlocked, unset, unshown,
+};
 use crate::fault::KeepError;
 use crate::filtering::{Wish, base, check, compact};
 use crate::following::{PIECE, follow};
-use crate::joining::{HeardInput, JoinCounts, JoinPorts, JoinWatch, tell_rules};
+use crate::joining::{HeardInput, JoinCounts, JoinPorts, JoinWatch, checks_of, tell_rules};
 use crate::keeping::{KeepPorts, ended, open_log, open_short};
 use crate::opening::{check_no_end, lock};
 use crate::place::Place;
 use crate::progress::Progress;
 use crate::watching::{Shown, make_board, shown_by};
-use log_arguments::{LogCommand, read_arguments};
+use log_arguments::{Environment, LogCommand, read_arguments};
 use reg_join_service::serve_joined;
 use reg_metrics::serve_pages;
 use reg_service::serve_log;
@@ -53,7 +55,11 @@ fn main(rt: HostRuntime) -> io::Result<Finished> {
         Ok(words) => words.collect(alloc)?,
         Err(error) => return misread(&rt, error),
     };
-    let command = match read_arguments(alloc, words.as_slice()) {
+    let environment = match Environment::read(&rt) {
+        Ok(environment) => environment,
+        Err(error) => return unset(&rt, error),
+    };
+    let command = match read_arguments(alloc, words.as_slice(), environment.settings()) {
         Ok(command) => command,
         Err(error) => return refused(&rt, error),
     };
@@ -126,17 +132,20 @@ fn main(rt: HostRuntime) -> io::Result<Finished> {
             nodes,
             workers,
             metrics: _,
+            check_every,
         } => {
             let place = Place::new(listen, nodes, workers);
+            let every = checks_of(check_every);
             let heard = HeardInput::watched(rt, alloc, rt.reader(), Arc::try_clone(&board)?)?;
             let input = BufReader::with_capacity(alloc, PIECE, heard)?;
             let counts = JoinCounts::new(rt, Arc::try_clone(&board)?);
             let watch = JoinWatch::new(rt, &board);
-            let mut ports = JoinPorts::new(rt, alloc, place, &board);
+            let mut ports = JoinPorts::new(rt, alloc, place, every, &board);
             let served = serve_joined(
                 rt,
                 alloc,
                 place.size(),
+                every,
                 input,
                 rt.stdout(),
                 &Arc::new(alloc, counts)?,

@@ -17,7 +17,7 @@
 //!   `JUDGEMENT fits JUDGEMENT => yes` or `no`. `<3*text>` is a text three times, in which `@` is 0, 1 and 2, `#` is 1, 2 and 3, and `%` is
 //!   3, 2 and 1.
 //! - `.judges`: paragraphs. First `judge SCHEMAS VERDICTS => made`, or why no judge keeps so many, and then judgements, with their verdicts,
-//!   and `has READER; WRITER`, whether the judge keeps the verdict of these texts.
+//!   told by a check, or behind `make` by a judgement; and `has READER; WRITER`, whether the judge keeps the verdict of these texts.
 //! - `.words`: rows `level TEXT` and `mode TEXT` tell the name that a text gives, or `none`; `register MODE`, `import MODE` and `write MODE`
 //!   tell what a mode permits. In TEXT `^` and two hexadecimal digits stand for any byte.
 #![tactic(auto)]

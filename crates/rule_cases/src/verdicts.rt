@@ -119,12 +119,13 @@ pub(crate) fn try_verdicts(tally: &mut Tally, keys: RandomState, text: &str) -> 
 
 /// What comes of what a judge is asked.
 fn asked_by(alloc: Global, judge: &mut Judge, words: &str) -> Said<String> {
-    match words.strip_prefix("has ") {
-        Some(texts) => {
-            let (reader, writer) = texts.split_once("; ").ok_or(CaseError::NotUnderstood)?;
-            let has = judge.has(reader, writer);
-            Ok(String::from_str(alloc, if has { "yes" } else { "no" })?)
-        }
+    if let Some(texts) = words.strip_prefix("has ") {
+        let (reader, writer) = texts.split_once("; ").ok_or(CaseError::NotUnderstood)?;
+        let has = judge.has(reader, writer);
+        return Ok(String::from_str(alloc, if has { "yes" } else { "no" })?);
+    }
+    match words.strip_prefix("make ") {
+        Some(judgement) => told(alloc, by_judgement(alloc, Some(judge), judgement)),
         None => told(alloc, by_check(alloc, judge, words)),
     }
 }

@@ -1,6 +1,6 @@
 // Cases in paragraphs: a log and requests, two schemas, or a log and commands of `registrylog`.
 use crate::cases::{came_of, outcome_of, push_request, push_response, words_of};
-use log_arguments::{LogCommand, read_arguments};
+use log_arguments::{LogCommand, Settings, read_arguments};
 use reg_base::{BaseError, base};
 use reg_compaction::{compact, compact_to};
 use reg_inspection::inspect;
@@ -142,7 +142,16 @@ fn filter(
     output: &mut Vec<u8>,
 ) -> Result<bool, BaseError> {
     let mut reader = log;
-    match read_arguments(alloc, words) {
+    let unset = Settings {
+        listen: None,
+        nodes: None,
+        workers: None,
+        metrics: None,
+        quiet: None,
+        new: None,
+        check_every: None,
+    };
+    match read_arguments(alloc, words, unset) {
         Ok(LogCommand::Check { .. }) => return Ok(inspect(alloc, &mut reader, output)?),
         Ok(LogCommand::Base { below, .. }) => base(alloc, below, &mut reader, output)?,
         Ok(LogCommand::Compact { to: None, .. }) => compact(alloc, &mut reader, output)?,

@@ -109,8 +109,8 @@ impl Taking {
         Taking::interrupted(alloc, size, fault, NO_FAULT, 0)
     }
 
-    /// The same, which answers a later error after so many calls that went well, and is interrupted so many times before each
-    /// write and each flush.
+    /// Takes so many bytes at each write and answers `fault`, or a later error after the calls that it lets go well. It is
+    /// interrupted so many times before each write and each flush.
     pub fn interrupted(
         alloc: Global,
         size: usize,

@@ -160,7 +160,7 @@ impl Tally {
         self.tell_more(case, wanted, came)
     }
 
-    /// The same of a case that is counted already.
+    /// Compares another text of a case that is counted already. One that can't be understood is refused.
     pub fn tell_more(&mut self, case: &str, wanted: &str, came: Said<String>) -> Made<()> {
         match came {
             Ok(came) => self.compare(case, wanted.as_bytes(), came.as_bytes()),

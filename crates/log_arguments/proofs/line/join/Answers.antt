@@ -13,4 +13,5 @@ returns c =
     let two = HasLine-arg _ _ _ _ _ one c.nodes.ensures c.in_ok-arg-2.ensures in
     let three = HasLine-arg _ _ _ _ _ two workers c.in_ok-arg-3.ensures in
     let four = HasLine-arg _ _ _ _ _ three c.metrics.ensures c.in_ok-arg-4.ensures in
-    HasLine-last _ _ c.arg-5.result _ _ four asked c.arg-5.ensures
+    let five = HasLine-arg _ _ _ _ _ four c.check_every.ensures c.in_ok-arg-5.ensures in
+    HasLine-last _ _ c.arg-6.result _ _ five asked c.arg-6.ensures

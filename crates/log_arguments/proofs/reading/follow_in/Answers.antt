@@ -3,4 +3,4 @@ use Rattle.log_arguments.proofs.reading.follow_in.Goals as goal
 
 pub returns-in-Err : goal.returns-in-Err
 returns-in-Err c =
-    follow_alone _ (λ listen nodes workers metrics is shown. c.in-Err.ensures (record { listen = listen; nodes = nodes; workers = workers }) is)
+    follow_alone c.args.given.set _ (λ listen nodes workers metrics is shown. c.in-Err.ensures (record { listen = listen; nodes = nodes; workers = workers }) is)

@@ -4,4 +4,4 @@ use Rattle.log_arguments.proofs.reading.join_in.Goals as goal
 
 pub returns-in-Err : goal.returns-in-Err
 returns-in-Err c =
-    join_alone _ (search rules) (λ listen nodes workers metrics is shown. c.in-Err.ensures (record { listen = listen; nodes = nodes; workers = workers }) is)
+    join_alone c.args.given.set _ (search rules) (λ listen nodes workers check_every metrics is shown within. c.in-Err.ensures (record { listen = listen; nodes = nodes; workers = workers }) is)

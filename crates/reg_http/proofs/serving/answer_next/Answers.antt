@@ -1,5 +1,6 @@
 use Rattle.std.proofs.Common.{ap, refl, ◌∙◌}
 use Rattle.std.proofs.KnownBytes.{Keeps-refl}
+use Rattle.reg_http.proofs.Attended.{gets-lent}
 use Rattle.reg_http.proofs.Runs.{from_front, lost_request, lost_response}
 use Rattle.reg_http.proofs.serving.answer_next.Goals as goal
 
@@ -7,7 +8,9 @@ pub returns-in-Ok-answer_got-clause-step : goal.returns-in-Ok-answer_got-clause-
 returns-in-Ok-answer_got-clause-step g c =
     from_front _ _ (g.R.Read.remaining c.args.reader.now.inner) (g.R.Read.remaining c.begin_count.new.self.inner)
     (ap g.R.Read.remaining c.begin_count.ensures.inner)
-    (λ text gets. c.in-Ok-answer_got.ensures.step text (g.R.Read.remaining c.read_message.new.reader.inner) gets) c.in-Ok.ensures.got
+    (λ text gets.
+    c.in-Ok-answer_got.ensures.step text (g.R.Read.remaining c.read_message.new.reader.inner)
+    (gets-lent text (g.R.Read.remaining c.read_message.new.reader.inner) c.in-Ok.got gets)) c.in-Ok.ensures.got
 
 pub returns-in-Err-answer_got-clause-refused : goal.returns-in-Err-answer_got-clause-refused
 returns-in-Err-answer_got-clause-refused g c =
@@ -19,7 +22,9 @@ returns-in-Err-answer_got-clause-refused g c =
           (g.R.Read.remaining c.args.reader.now.inner) (g.R.Read.remaining c.begin_count.new.self.inner)
           (g.W.Write.contents c.args.writer.now.inner) (g.W.Write.contents c.answer_got.new.writer.inner)
           (ap g.R.Read.remaining c.begin_count.ensures.inner)
-          (λ text gets. c.in-Err-answer_got.ensures.refused text (g.R.Read.remaining c.read_message.new.reader.inner) gets)
+          (λ text gets.
+          c.in-Err-answer_got.ensures.refused text (g.R.Read.remaining c.read_message.new.reader.inner)
+          (gets-lent text (g.R.Read.remaining c.read_message.new.reader.inner) c.in-Ok.got gets))
           c.in-Ok.ensures.got,
     )
 

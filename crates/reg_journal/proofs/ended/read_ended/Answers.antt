@@ -63,7 +63,9 @@ returns-then-is_empty-clause-refused c =
     let text : c.deref.result.now ≡ file ++ 10 ∷ [] = c.deref.ensures.value ∙ c.in_ok-push.ensures.items in
     let given : c.new-reader.result.inner.now ≡ c.deref.result.now = search rules in
     let reads : log_of (file ++ 10 ∷ []) ≡ Ok found.0 = ap log_of (sym (given ∙ text)) ∙ found.1 in
-    nothing_left file found.0 reads
+    let rest : c.read_log.new.reader.inner.now ≡ found.0.rest = cc (found.3) in
+    let same : c.into_inner-left.result.now ≡ c.read_log.new.reader.inner.now = search rules in
+    nothing_left file found.0 c.into_inner-left.result.now reads (same ∙ rest) (sym c.is_empty.ensures ∙ c.if-is_empty.true)
 
 pub overflow_sub-end : goal.overflow_sub-end
 overflow_sub-end c =

@@ -14,7 +14,7 @@ loop-len-preserved c =
     let len = c.loop-len.len in
     let grown : take (len + 1) bytes ≡ take len bytes ++ get_or bytes len 0 ∷ [] =
     ap (λ k. take k bytes) (add-suc len) ∙ take-suc bytes len 0 (omega (arith, c.loop-len-test.true)) in
-    let unended : ends_in_empty_line (take (len + 1) bytes) ≡ false = sym c.if-ends_in_empty_line.ensures in (
+    let unended : ends_in_empty_line (take (len + 1) bytes) ≡ false = sym c.if-ends_empty_line.ensures in (
       omega (arith, c.loop-len-test.true),
       subst (HasNoEnd []) (sym grown)
           (HasNoEnd-more [] (take len bytes) (take (len + 1) bytes) (get_or bytes len 0) c.loop-len.invariant.1 grown unended),

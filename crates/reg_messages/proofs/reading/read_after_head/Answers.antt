@@ -4,7 +4,7 @@ use Rattle.reg_messages.proofs.reading.read_after_head.Goals as goal
 
 pub read_body-requires-clause-texts : goal.read_body-requires-clause-texts
 read_body-requires-clause-texts g c =
-    let (h, is, at) = c.in-Some.ensures.head in has-texts c.args.bytes.now c.in-Some.head h at
+    let (h, is, at) = c.in-Some.ensures.head in has-texts c.args.bytes.now _ c.in-Some.spans h at
 
 pub returns-in-Some-clause-got : goal.returns-in-Some-clause-got
 returns-in-Some-clause-got g c = λ start taken took known.

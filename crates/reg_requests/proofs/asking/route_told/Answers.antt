@@ -1,7 +1,6 @@
-use Rattle.std.proofs.Common.{ap, sym, subst, ◌≡◌, ◌∙◌, Some}
+use Rattle.std.proofs.Common.{ap, sym, subst, ◌≡◌, ◌∙◌}
 use Rattle.std.specs.Prelude.{IfOk}
 use Rattle.reg_requests.specs.declared.asked.Asked.{Asked}
-use Rattle.reg_routes.specs.Endpoint.{endpoint_of}
 use Rattle.reg_routes.specs.declared.endpoint.Endpoint.{Endpoint}
 use Rattle.reg_requests.proofs.Endpoints.{asked-at_route}
 use Rattle.reg_requests.proofs.asking.route_told.Goals as goal

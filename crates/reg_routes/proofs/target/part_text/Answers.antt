@@ -5,11 +5,10 @@ use Rattle.percent_encoding.specs.Percent.{percent_decode}
 use Rattle.reg_routes.proofs.Texts.{is_utf8-not}
 use Rattle.reg_routes.proofs.target.part_text.Goals as goal
 
-pub returns-in_ok-of_string-in-Ok : goal.returns-in_ok-of_string-in-Ok
-returns-in_ok-of_string-in-Ok c =
+pub returns-in-Ok : goal.returns-in-Ok
+returns-in-Ok c =
     let text : IsUtf8 (percent_decode c.args.part.now) = subst IsUtf8 c.percent_decode.ensures.bytes c.in-Ok.ensures.ok_only_if_utf8 in
-    let same =
-    c.in_ok-of_string-in-Ok.ensures ∙ c.in_ok-into_owned-in-Ok.ensures.ok ∙ c.in-Ok.ensures.value ∙ c.percent_decode.ensures.bytes in
+    let same = c.of.ensures ∙ c.in-Ok.ensures.value ∙ c.percent_decode.ensures.bytes in
     rw (is_utf8-from_IsUtf8 _ text, same) refl
 
 pub returns-in-Err-Utf8 : goal.returns-in-Err-Utf8

@@ -1,7 +1,7 @@
-use Rattle.reg_conversation.proofs.Needs.{needed-fed}
+use Rattle.reg_conversation.proofs.Needs.{known-fed}
 use Rattle.reg_conversation.proofs.conversation.Conversation.feed.Goals as goal
 
 pub invariant_of-self : goal.invariant_of-self
 invariant_of-self c =
-    needed-fed c.self.inside.needs c.self.inside.held.items c.extend_from_slice.new.self.items
+    known-fed c.self.inside.front c.self.inside.held.items c.extend_from_slice.new.self.items
     c.args.bytes.now _ c.extend_from_slice.ensures.items c.self.invariant
