@@ -12,6 +12,7 @@ LONGEST = 2097152
 MOST_LINES = 1000000
 GREATEST_OFFSET = 2**63 - 1
 GREATEST_NUMBER = 2**31 - 1
+MARK = ("ID_MARK",)
 
 
 def offset_of(field):
@@ -91,8 +92,8 @@ def read_log(text):
     for number, line in enumerate(lines):
         behind = max(behind, end_of(line, number))
     if owes_mark(lines):
-        raise Broken("the log owes a mark of ids: start and stop `registrylog keep` over it for an init; a rebase has to end where none is "
-                     "due (README.md, A smaller base)")
+        raise Broken("the log owes a mark of ids: start and stop `registrylog keep` over it for an init, before anything compacts it; a "
+                     "rebase has to end where none is due (README.md, A smaller base)")
     return Log(behind, len(lines) - has_floor(text), text)
 
 
@@ -120,18 +121,28 @@ def number_of(value, name):
 
 
 def owes_mark(lines):
-    """Whether a version has an id above the last mark. Of each key the record of the greatest offset counts."""
-    last = {}
+    """Whether a version has an id above the last mark, or, where the log has no mark, any line of a version names an id, superseded or not.
+    Of each key the record of the greatest offset counts. Lines that a compaction dropped aren't here: it wrote the mark of their ids."""
+    last, names_any = {}, False
     for line in lines:
         if b"SCHEMA" in line or b"ID_MARK" in line:
             offset, key, value = line.split(b"\t")
-            key = json_of(key)
-            kind = key.get("keytype") if isinstance(key, dict) else None
-            if kind in ("SCHEMA", "ID_MARK"):
-                name = (kind, str(key.get("subject")), key.get("version")) if kind == "SCHEMA" else (kind,)
+            name = key_with_id(json_of(key))
+            if name:
                 last[name] = max(last.get(name, (-1, b"")), (int(offset), value))
-    mark = number_of(json_of(last.pop(("ID_MARK",), (0, b"null"))[1]), "id")
+                names_any = names_any or number_of(json_of(value), "id") > 0
+    if MARK not in last:
+        return names_any
+    mark = number_of(json_of(last.pop(MARK)[1]), "id")
     return any(number_of(json_of(value), "id") > mark for _, value in last.values())
+
+
+def key_with_id(key):
+    """What tells a version's key, or the mark's, from others, or none for a key of another kind."""
+    kind = key.get("keytype") if isinstance(key, dict) else None
+    if kind == "SCHEMA" and isinstance(key.get("subject"), str) and number_of(key, "version"):
+        return kind, key["subject"], key["version"]
+    return MARK if kind == "ID_MARK" else None
 
 
 def pieces_of(text, size):

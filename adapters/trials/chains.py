@@ -351,8 +351,10 @@ def words_and_statuses(trial, kind):
     version = (b'0\t{"keytype":"SCHEMA","subject":"s","version":1,"magic":1}\t'
                b'{"subject":"s","version":1,"id":5,"schema":"\\"int\\"","deleted":false}\n')
     mark = b'1\t{"keytype":"ID_MARK","magic":0}\t{"id":4}\n'
+    deleted, other = (version + b'1\t' + version.split(b"\t")[1] + b"\tnull\n",
+                      version.replace(b'"schema":"\\"int\\""', b'"schemaType":"PROTOBUF"') + b'1\t' + version.split(b"\t")[1] + b"\tnull\n")
     for text, said in ((b"0\tx\n", "line 1 isn't a line"), (b"00\ta\tb\n", "line 1"), (b"0\ta\tb\n\n1\ta\tb\n", "line 2"),
-                       (version, "owes a mark"), (version + mark, "owes a mark")):
+                       (version, "owes a mark"), (version + mark, "owes a mark"), (deleted, "owes a mark"), (other, "owes a mark")):
         expect(said in log.run("init", text=text + b"\nend 1 1\n", command=command, status=2)[1], text)
     text, other = whole(note(0, "x") + note(1, "y")), whole(note(0, "z"))
     for cut, said in ((b"", "no line behind"), (note(0, "x"), "no line behind"), (note(0, "x") + b"\n", "no line behind"),

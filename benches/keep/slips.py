@@ -22,6 +22,7 @@ A start finds
 `new`          a log, with --new; or --new comes twice, one after the other and at once
 `cut`          bytes behind the log, beside links and an older file where they are put; modes and owners
 `recipe`       an old backup, after KEEPING's commands for one
+`moved_in`     another registry's topic, in which a delete superseded the greatest id
 The log is full
 `full`         of 1,000,000 lines, and a mark of ids is due; then KEEPING's commands for it
 `no_room`      of 999,999 lines
@@ -482,6 +483,26 @@ def declined(registry, clients, answer=USED_UP):
     clients.look(registry)
 
 
+def moved_in():
+    place = FOLDER + "/moved_in"
+    os.mkdir(place)
+    path = place + "/log"
+    version = version_line(1, "t1", 2)
+    lines = (version_line(0, "s1", 1) + version + "2\t%s\tnull\n" % version.split("\t")[1]).encode()
+    marked = lines + ("3\t%s\t{\"id\":2}\n" % MARK).encode()
+    write(path, lines)
+    registry, clients = Kept(path), Clients(1)
+    same("what it says", ["mark of ids 2 appended: the log had none, and 2 is the highest id that its lines name",
+                          "serving 4 records, next offset 4, %d bytes" % (len(marked) + 1)], registry.lines())
+    same("the file", marked + b"\n", read(path))
+    clients.register(registry, 1)
+    same("the id of the next schema", 3, max(clients.kept.values()))
+    registry.end()
+    registry = again(path, clients)
+    same("what it says of the mark later", [], [line for line in registry.lines() if "mark" in line])
+    registry.end()
+
+
 def full():
     place = FOLDER + "/full"
     os.mkdir(place)
@@ -739,7 +760,7 @@ def too_large():
     again(place + "/log", clients).end()
 
 
-NAMES = ("rename remove put_back folder covered sed copy restore appended emptied overwritten copied compaction uncompacted unlocked linked missing unmounted new cut recipe "
+NAMES = ("rename remove put_back folder covered sed copy restore appended emptied overwritten copied compaction uncompacted unlocked linked missing unmounted new cut recipe moved_in "
          "full no_room fills disk_cut disk_end disk_mark disk sync names").split()
 
 

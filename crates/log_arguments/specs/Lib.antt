@@ -1,3 +1,4 @@
 pub mod Line
 pub mod Values
 pub mod Asked
+pub mod Variables

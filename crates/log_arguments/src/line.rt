@@ -95,7 +95,8 @@ pub(crate) fn join<'a>(alloc: Global) -> Result<Command<'a>, AllocError>
         )
         .after_help(
             "An adapter starts it, and keeps the log: its messages come on standard input, and requests go to standard output.\n\n\
-            The environment sets options too: REGISTRY_LISTEN, REGISTRY_NODES, REGISTRY_WORKERS, REGISTRY_METRICS.\n\n\
+            The environment sets options too: REGISTRY_LISTEN, REGISTRY_NODES, REGISTRY_WORKERS, REGISTRY_METRICS, \
+            REGISTRY_CHECK_EVERY.\n\n\
             Example of an adapter's command: registrylog join --listen 0.0.0.0:9000",
         )
         .arg(listen(alloc))?

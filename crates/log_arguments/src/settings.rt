@@ -1,4 +1,6 @@
 // What the environment sets.
+ghost use Rattle.log_arguments.specs.Variables.{AreSetBy, IsSetBy};
+
 use std::alloc::Global;
 use std::env;
 use std::env::VarError;
@@ -55,8 +57,10 @@ impl Environment {
         })
     }
 
-    /// Returns what the variables set.
-    pub fn settings(&self) -> Settings<'_> {
+    /// Returns what the variables set, each its own option.
+    pub fn settings(&self) -> Settings<'_>
+        ensures { AreSetBy self.now result }
+    {
         Settings {
             listen: text_of(&self.listen),
             nodes: text_of(&self.nodes),
@@ -83,7 +87,9 @@ fn variable<R: Env + AllocGlobal>(
     }
 }
 
-fn text_of(value: &Option<String>) -> Option<&str> {
+fn text_of(value: &Option<String>) -> Option<&str>
+    ensures { IsSetBy value.now result }
+{
     match value {
         Some(text) => Some(text.as_str()),
         None => None,

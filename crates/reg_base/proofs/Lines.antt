@@ -1,11 +1,11 @@
 -- A walk over the lines of a log that keeps those below an offset.
 use Rattle.std.proofs.Common.{◌≡◌, ◌+◌, ◌-◌, ◌<◌, ◌≤◌, ℕ, Bool, true, false, cond, List, [], ◌∷◌, ◌++◌, length, drop, take, Option, Some, Ok}
-use Rattle.std.proofs.Common.{subst, refl, sym, ap, ◌∙◌, arith, append_assoc, append-nil, length-append}
+use Rattle.std.proofs.Common.{refl, sym, ap, ◌∙◌, arith, append_assoc, append-nil, length-append}
 use Rattle.std.proofs.lemmas.List.{drop_at, take_all, take_at}
 use Rattle.std.proofs.lemmas.List.Sums.{sum_by-cons}
-use Rattle.std.specs.List.{count_by, filter}
+use Rattle.std.specs.List.{count_by}
 use Rattle.std.specs.Option.{option_map_or}
-use Rattle.reg_journal.specs.Lines.{Say, SayLog, SaysFloor, text_of}
+use Rattle.reg_journal.specs.Lines.{Say, text_of}
 use Rattle.reg_compaction.specs.Fronts.{Front, HasLines}
 use Rattle.reg_fold.specs.reg_records.Line.{reading}
 use Rattle.reg_fold.specs.reg_records.Log.{is_foreign, records_in}

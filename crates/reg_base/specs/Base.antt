@@ -1,5 +1,5 @@
 -- What a store that several processes write begins with: a compaction of what a log has below an offset.
-use Rattle.std.specs.Prelude.{◌≡◌, ℕ, suc, List, [], ◌∷◌, Bool, true, false, ◌&&◌, ◌||◌, is_none, nat_eq, nat_lt, Ok, if◌then◌else◌}
+use Rattle.std.specs.Prelude.{◌≡◌, ℕ, suc, List, [], ◌∷◌, Bool, true, false, ◌&&◌, ◌||◌, is_none, nat_eq, nat_lt, Ok, if◌then◌else◌, None}
 use Rattle.std.specs.FinSet.{from_list}
 use Rattle.std.specs.List.{filter, list_any}
 use Rattle.reg_fold.specs.reg_records.Log.{LogText, log_of, next_of, offset_in, records_in}
@@ -8,9 +8,8 @@ use Rattle.reg_fold.specs.reg_records.declared.key.Key.TheVariants as keys
 use Rattle.reg_fold.specs.reg_records.declared.record.Read.{Read}
 use Rattle.reg_fold.specs.reg_records.declared.record.Record.{Record}
 use Rattle.reg_fold.specs.reg_set.LastRecords.{last_records}
-use Rattle.reg_fold.specs.reg_set.Records.{Records}
 use Rattle.reg_fold.specs.IdMark.{needs_mark}
-use Rattle.reg_compaction.specs.Sorted.{IsSortedCompaction}
+use Rattle.reg_compaction.specs.Marked.{IsMarkedCompaction, dropped_mark}
 
 -- whether what a line says stands below the offset
 abbrev pub is_below : ℕ → Read → Bool
@@ -23,8 +22,12 @@ reads_below below read = filter (is_below below) read
 abbrev pub log_below : ℕ → LogText → LogText
 log_below below log = record { floor = log.floor; reads = reads_below below log.reads; rest = [] }
 
-abbrev pub lasts_below : ℕ → LogText → Records
-lasts_below below log = last_records (from_list (records_in (reads_below below log.reads)))
+abbrev pub records_below : ℕ → LogText → List Record
+records_below below log = records_in (reads_below below log.reads)
+
+-- a mark of ids is due behind the records, and compacting them writes none
+abbrev pub owes_mark : List Record → Bool
+owes_mark rs = needs_mark (last_records (from_list rs)) && is_none (dropped_mark None rs)
 
 abbrev pub is_mark : Key → Bool
 is_mark (keys.Schema subject version) = false
@@ -55,20 +58,20 @@ abbrev pub EndsAt : ℕ → LogText → Type 0
 EndsAt below log = next_of log.floor (reads_below below log.reads) ≡ below
 
 -- a log may begin anew at the offset: something ends right before it, no command's records stand on both sides of it, and no
--- mark of ids is due there
+-- mark of ids is due there that isn't written
 pub record MayBeginAt (below : ℕ) (log : LogText) : Type 0 where
   pub ends : EndsAt below log
   pub apart : is_crossed below log ≡ false
-  pub settled : needs_mark (lasts_below below log) ≡ false
+  pub settled : owes_mark (records_below below log) ≡ false
 
--- the output is a compaction of what the input has below the offset, where a log may begin anew
+-- the output is a compaction of what the input has below the offset, where a log may begin anew, with the mark that it lacks
 pub record IsBase (below : ℕ) (input output : List ℕ) : Type 0 where
   pub log : LogText
   pub read : log_of input ≡ Ok log
   pub begins : MayBeginAt below log
   pub part : List ℕ
   pub has : log_of part ≡ Ok (log_below below log)
-  pub compacted : IsSortedCompaction part output
+  pub compacted : IsMarkedCompaction part output
 
 -- Private: the lines of which that stands below the offset which they say
 abbrev pub lines_below : ℕ → List (List ℕ) → List Read → List (List ℕ)

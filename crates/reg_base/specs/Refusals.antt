@@ -3,10 +3,9 @@ use Rattle.std.specs.Prelude.{◌≡◌, ℕ, List, true, false, Ok, codes, Opti
 use Rattle.std.specs.Io.KnownBytes.{Keeps}
 use Rattle.reg_fold.specs.reg_records.Log.{LogText, log_of}
 use Rattle.reg_fold.specs.reg_records.declared.log.LogError.{LogError}
-use Rattle.reg_fold.specs.IdMark.{needs_mark}
 use Rattle.reg_journal.specs.Found.{HasFault}
 use Rattle.reg_compaction.specs.Filter.{IsFilterRefusal, exit_status as filter_status, filter_error_of, filter_error_text}
-use Rattle.reg_base.specs.Base.{EndsAt, is_crossed, lasts_below}
+use Rattle.reg_base.specs.Base.{EndsAt, is_crossed, owes_mark, records_below}
 use Rattle.reg_base.specs.declared.error.BaseError.{BaseError}
 use Rattle.reg_base.specs.declared.error.BaseError.TheVariants.{Filter, NoEnd, Crossed, MarkDue}
 
@@ -29,7 +28,7 @@ pub record OwesMark (below : ℕ) (text : List ℕ) : Type 0 where
   pub read : log_of text ≡ Ok log
   pub ends : EndsAt below log
   pub apart : is_crossed below log ≡ false
-  pub due : needs_mark (lasts_below below log) ≡ true
+  pub due : owes_mark (records_below below log) ≡ true
 
 -- the text has that fault, or memory was refused, or no log begins anew at the offset, for that reason
 abbrev pub IsNoBase : ℕ → List ℕ → BaseError → Type 0

@@ -9,14 +9,14 @@ ghost use Rattle.reg_base.specs.Refusals.{IsBaseRefusal, IsNoBase};
 use crate::below::part_below;
 use crate::error::BaseError;
 use crate::marks::{is_crossed, owes_mark};
-use reg_compaction::{compacted_in_order, read_input, write_output};
+use reg_compaction::{compacted_with_mark, read_input, write_output};
 use reg_fold::reg_records::{Device, Output, read_log};
 use std::alloc::Global;
 use std::io::Read;
 
 /// Reads a log to the end of the input and writes its base at the offset `below`: a compaction of
 /// its lines below that offset, in the order of the offsets, at the log's floor, with `below` as
-/// its next offset.
+/// its next offset. A mark of ids that is due there takes the offset of a record that is dropped.
 ///
 /// The whole input is read before the first byte is written. What is behind the log's empty line is
 /// left out; if it is a line that says where the log ends and it is wrong, the log is refused.
@@ -57,5 +57,5 @@ pub fn base_of(alloc: Global, log: &[u8], below: u64) -> Result<Vec<u8>, BaseErr
     if owes_mark(alloc, &begun.records)? {
         return Err(BaseError::MarkDue);
     }
-    Ok(compacted_in_order(alloc, &part)?)
+    Ok(compacted_with_mark(alloc, &part)?)
 }

@@ -1,11 +1,9 @@
 // Whether a log may begin anew at an offset.
 ghost use Rattle.std.specs.Prelude.{◌≡◌, IfOk};
-ghost use Rattle.std.specs.FinSet.{from_list};
 ghost use Rattle.std.specs.List.{list_any};
-ghost use Rattle.reg_fold.specs.reg_set.LastRecords.{last_records};
-ghost use Rattle.reg_fold.specs.IdMark.{needs_mark};
-ghost use Rattle.reg_base.specs.Base.{may_cross};
+ghost use Rattle.reg_base.specs.Base.{may_cross, owes_mark};
 
+use reg_compaction::mark_of;
 use reg_fold::Registry;
 use reg_fold::reg_records::{Key, Record};
 use reg_fold::reg_set::RecordSet;
@@ -29,11 +27,14 @@ fn may_cross(below: u64, given: &Record) -> bool
 }
 
 /// Returns whether a mark of ids (a record of the highest id ever given) is due behind those
-/// records. The only error is out of memory.
+/// records, and compacting them doesn't write it. The only error is out of memory.
 pub(crate) fn owes_mark(alloc: Global, records: &[Record]) -> Result<bool, AllocError>
-    ensures { IfOk result (λ owes. owes ≡ needs_mark (last_records (from_list records.now))) }
+    ensures { IfOk result (λ owes. owes ≡ owes_mark records.now) }
 {
     let set = RecordSet::of(alloc, records)?;
     let registry = Registry::of_set(alloc, &set)?;
-    Ok(registry.mark() < registry.greatest_id().unwrap_or(0))
+    if registry.mark() >= registry.greatest_id().unwrap_or(0) {
+        return Ok(false);
+    }
+    Ok(mark_of(alloc, records, None)?.is_none())
 }

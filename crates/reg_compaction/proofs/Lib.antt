@@ -4,8 +4,10 @@ mod Counts
 mod Drops
 pub mod Fronts
 mod Full
+mod Greatest
 mod Kept
 mod Lasts
+mod Marks
 mod Offsets
 mod Orders
 mod Pieces

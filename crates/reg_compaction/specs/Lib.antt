@@ -5,6 +5,8 @@ pub mod CompactedTo
 pub mod Filter
 pub mod Fronts
 pub mod InPlace
+pub mod Lacking
+pub mod Marked
 pub mod Said
 pub mod Shrunk
 pub mod Sorted

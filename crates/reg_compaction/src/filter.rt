@@ -4,11 +4,11 @@ ghost use Rattle.std.specs.Io.KnownBytes.{Appends};
 ghost use Rattle.reg_journal.specs.Found.{HasFault};
 ghost use Rattle.reg_records.specs.declared.limits.TheConstants.{OFFSET_LIMIT};
 ghost use Rattle.reg_compaction.specs.Filter.{IsFilterRefusal, IsFilterRefusalTo, IsFlushed, IsNoReading, filter_error_of, filter_error_to};
-ghost use Rattle.reg_compaction.specs.Sorted.{IsSortedCompaction, IsSortedCompactionTo};
+ghost use Rattle.reg_compaction.specs.Marked.{IsMarkedCompaction, IsMarkedCompactionTo};
 ghost use Rattle.reg_compaction.specs.Whole.{IsNotCut};
 ghost use Rattle.reg_compaction.specs.declared.filter.FilterError.TheVariants.{WriteFault};
 
-use crate::sorting::{compacted_in_order, compacted_to_in_order};
+use crate::marking::{compacted_to_with_mark, compacted_with_mark};
 use crate::to_floor::ToFloorError;
 use crate::whole::check_end;
 use reg_records::{LogError, LogFault, Output};
@@ -85,7 +85,7 @@ impl fmt::Display for FilterError {
 impl Error for FilterError {}
 
 /// Reads a log to the end of the input, compacts it at its own floor, and writes its lines in the
-/// order of their offsets.
+/// order of their offsets, with the mark of ids that it lacks ([`crate::compacted_with_mark`]).
 ///
 /// The whole input is read before the first byte is written. What is behind the log's empty line is
 /// left out; if it is a line that says where the log ends and it is wrong, the log is refused
@@ -95,14 +95,14 @@ pub fn compact<R: Read, W: Output>(
     reader: &mut R,
     writer: &mut W,
 ) -> Result<(), FilterError>
-    ensures written { OnOk result (IfSome (R.remaining reader.old) (λ input. (out : List ℕ) × IsSortedCompaction input out
+    ensures written { OnOk result (IfSome (R.remaining reader.old) (λ input. (out : List ℕ) × IsMarkedCompaction input out
         × Appends (W.contents writer.old) (W.contents writer.new) out)) }
     ensures not_cut { OnOk result (IfSome (R.remaining reader.old) IsNotCut) }
     ensures flushed { OnOk result (IsFlushed W.contents W.flushes writer.new) }
     ensures refused { IfErr result (IsFilterRefusal (R.remaining reader.old) (W.contents writer.old) (W.contents writer.new)) }
 {
     let input = read_input(alloc, reader)?;
-    match compacted_in_order(alloc, &input) {
+    match compacted_with_mark(alloc, &input) {
         Ok(output) => write_output(writer, &output),
         Err(e) => Err(filter_error(e)),
     }
@@ -117,14 +117,14 @@ pub fn compact_to<R: Read, W: Output>(
     writer: &mut W,
 ) -> Result<(), FilterError>
     requires { floor ≤ OFFSET_LIMIT }
-    ensures written { OnOk result (IfSome (R.remaining reader.old) (λ input. (out : List ℕ) × IsSortedCompactionTo floor input out
+    ensures written { OnOk result (IfSome (R.remaining reader.old) (λ input. (out : List ℕ) × IsMarkedCompactionTo floor input out
         × Appends (W.contents writer.old) (W.contents writer.new) out)) }
     ensures not_cut { OnOk result (IfSome (R.remaining reader.old) IsNotCut) }
     ensures flushed { OnOk result (IsFlushed W.contents W.flushes writer.new) }
     ensures refused { IfErr result (IsFilterRefusalTo floor (R.remaining reader.old) (W.contents writer.old) (W.contents writer.new)) }
 {
     let input = read_input(alloc, reader)?;
-    match compacted_to_in_order(alloc, &input, floor) {
+    match compacted_to_with_mark(alloc, &input, floor) {
         Ok(output) => write_output(writer, &output),
         Err(e) => Err(to_floor_error(e)),
     }

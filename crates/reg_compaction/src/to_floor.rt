@@ -148,7 +148,11 @@ fn begin_to(alloc: Global, log: &[u8], floor: u64) -> Result<Begun, ToFloorError
 }
 
 /// Returns the records that compacting to a floor keeps.
-fn lasts_to(alloc: Global, records: &[Record], floor: u64) -> Result<LastRecords, AllocError>
+pub(crate) fn lasts_to(
+    alloc: Global,
+    records: &[Record],
+    floor: u64,
+) -> Result<LastRecords, AllocError>
     ensures { IfOk result (λ lasts. lasts ≡ compacted_to floor (from_list records.now)) }
 {
     records_are_ordered();

@@ -1,4 +1,6 @@
+mod Covered
 mod Logs
+mod WithMark
 mod Opened
 mod Rooms
 mod Starts

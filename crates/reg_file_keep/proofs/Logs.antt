@@ -1,8 +1,8 @@
 -- A log whose keep is open is kept as its file is.
-use Rattle.std.proofs.Common.{◌≡◌, ◌⊎◌, inl, inr, ⊎_elim, List, [], ◌∷◌, ◌++◌, Bool, false, Option, Result, refl, sym, ap, subst, ◌∙◌}
+use Rattle.std.proofs.Common.{◌≡◌, inl, inr, ⊎_elim, List, [], ◌∷◌, Option, refl, ap, subst, ◌∙◌}
 use Rattle.std.specs.Borrow.{Bor}
 use Rattle.reg_pen.specs.Opening.{KeepsDue}
-use Rattle.reg_pen.specs.Pen.{Acts, Follows, IsAhead, IsBehind, Lends, PenState, StillPends, Submits, item_of, settled}
+use Rattle.reg_pen.specs.Pen.{Acts, Follows, PenState, Submits, item_of, settled}
 use Rattle.reg_pen.specs.declared.keep.Kept.{Kept}
 use Rattle.reg_pen.specs.declared.keep.Kept.TheVariants.{Taken, Declined, Lost, Unknown}
 use Rattle.reg_leader.specs.declared.command.Command.{Command}

@@ -14,7 +14,7 @@ use Rattle.reg_file_keep.specs.Keeping.{KeepsFile}
 use Rattle.reg_file_keep.specs.Published.{SaysPublished}
 use Rattle.reg_file_keep.proofs.Submitted.{Here, says_now}
 
-no_more : (before : Result Said (ℕ × LogFault)) → with_batch [] before ≡ before
+pub no_more : (before : Result Said (ℕ × LogFault)) → with_batch [] before ≡ before
 no_more (Ok says) = ap (λ (l : List Read). Ok (record says { reads = l })) (append-nil says.reads)
 no_more (Err fault) = refl
 

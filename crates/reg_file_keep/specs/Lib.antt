@@ -1,7 +1,9 @@
 pub mod KeepState
 pub mod Keeping
 pub mod LogKeep
+pub mod Marked
 pub mod Next
+pub mod NotStarted
 pub mod Published
 pub mod Room
 pub mod Starting

@@ -7,6 +7,7 @@ use Rattle.reg_compaction.specs.Said.{SaysCompaction}
 use Rattle.reg_records.specs.Log.{IsLogOf}
 use Rattle.reg_records.specs.declared.log.Log.{Log}
 use Rattle.reg_file_keep.specs.KeepState.{KeepState}
+use Rattle.reg_file_keep.specs.Marked.{marked}
 
 -- the keep stands at the end of the log: it goes on at its next offset, and its file says a compaction of what the log was
 -- read from, all of it on the disk
@@ -19,5 +20,6 @@ pub record StandsAt {D : Type 0} (is_modelled : Type 0) (may_leave : D → List 
   pub durable : is_modelled → Only (seen keep.journal.disk) (may_leave keep.journal.disk)
 
 -- what a crash might have left before, a file with all bytes that were there, or one that says the same, or a compaction of it
+-- with the mark that it lacked
 abbrev pub LosesNothing : (List ℕ → Type 0) → List ℕ → List ℕ → Type 0
-LosesNothing may_leave before c = HasAll may_leave before c ⊎ (said c ≡ said before) ⊎ SaysCompaction (said before) (said c)
+LosesNothing may_leave before c = HasAll may_leave before c ⊎ (said c ≡ said before) ⊎ SaysCompaction (marked (said before)) (said c)

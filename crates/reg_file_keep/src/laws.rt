@@ -18,12 +18,15 @@ ghost use Rattle.reg_topic.specs.declared.topic.Topic.{Topic};
 ghost use Rattle.reg_file_keep.specs.KeepState.{KeepState};
 ghost use Rattle.reg_file_keep.specs.Keeping.{KeepsFile};
 ghost use Rattle.reg_file_keep.specs.LogKeep.{KeepsLog, as_file};
+ghost use Rattle.reg_file_keep.specs.Marked.{IsLogSaid, MarkCovers, marked};
 ghost use Rattle.reg_file_keep.specs.Published.{SaysPublished};
 ghost use Rattle.reg_file_keep.specs.Starting.{StandsAt};
 
 use crate::log_keep::LogKeep;
-use reg_compaction::compactions_stand_for_logs;
+use reg_compaction::{compactions_stand_for_logs, greatest_named_is_greatest};
 use reg_journal::{Renewable, batches_add_records};
+use reg_leader::reg_set::{last_is_greatest, last_records_are_enough, records_are_ordered};
+use reg_leader::reg_values::written_values_read_back;
 
 /// States that when a pen is opened over a log and the keep at its end, as
 /// [`crate::start_file_keep`] returns them, the file says a compaction of that log with the id mark
@@ -84,3 +87,16 @@ pub fn closed_logs_take_no_command<D: Renewable>()
         → Submits (KeepsLog (KeepsFile D.is_modelled D.moment D.left_since D.may_leave D.seen D.faults D.renewals D.named)) base since old command reply new
         → new.keep ≡ LogKeep.Closed }
 {}
+
+/// States that over a log without a mark that gets the one which it lacks, no id that a record of it
+/// names is given to a new schema.
+pub fn marks_cover_ids()
+    ensures { (outcome : Result Said (ℕ × LogFault)) (log : Log) → IsLogSaid (marked outcome) log → MarkCovers outcome log }
+{
+    batches_add_records();
+    greatest_named_is_greatest();
+    last_is_greatest();
+    last_records_are_enough();
+    records_are_ordered();
+    written_values_read_back();
+}

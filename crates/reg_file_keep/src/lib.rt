@@ -1,7 +1,7 @@
 //! The keep of a log in a file: what makes a pen's batches durable.
 //!
-//! [`start_file_keep`] reads the log, moves what follows its empty line to another file, and
-//! returns the log with an open keep. From then on each batch is appended and synced before the pen
+//! [`start_file_keep`] reads the log, moves what follows its empty line to another file, appends the
+//! mark of ids that the log lacks, and returns the log with an open keep. From then on each batch is appended and synced before the pen
 //! publishes it. [`start_closed`] reads a log without ever writing to its file.
 //!
 //! One idea: the file always says a compaction of what was kept. It is compacted when many of its
@@ -23,6 +23,7 @@ mod closed;
 mod keeping;
 mod laws;
 mod log_keep;
+mod marking;
 mod room;
 mod starting;
 mod upkeep;
@@ -30,8 +31,8 @@ mod upkeep;
 pub use closed::start_closed;
 pub use keeping::FileKeep;
 pub use laws::{
-    closed_logs_take_no_command, open_logs_keep_as_files, opens_keep_the_file,
+    closed_logs_take_no_command, marks_cover_ids, open_logs_keep_as_files, opens_keep_the_file,
     submits_keep_the_file,
 };
 pub use log_keep::LogKeep;
-pub use starting::{NotStarted, Started, start_file_keep};
+pub use starting::{NotStarted, StartFault, Started, start_file_keep};

@@ -1,18 +1,21 @@
 // Starting over the log of a file.
-ghost use Rattle.std.specs.Prelude.{◌≡◌, ◌⊎◌, Ok, IfErr, IfOk, false};
-ghost use Rattle.reg_records.specs.Log.{IsLogOf};
+ghost use Rattle.std.specs.Prelude.{◌≡◌, IfErr, IfOk, false};
 ghost use Rattle.reg_journal.specs.Disk.{LeavesOnly, Only};
-ghost use Rattle.reg_journal.specs.Lines.{Said, said};
-ghost use Rattle.reg_compaction.specs.Aside.{HasAll};
+ghost use Rattle.reg_journal.specs.Lines.{said};
+ghost use Rattle.reg_compaction.specs.Aside.{GaveFaultAside};
 ghost use Rattle.reg_compaction.specs.Said.{SaysCompaction};
 ghost use Rattle.reg_file_keep.specs.LogKeep.{IsOpen};
+ghost use Rattle.reg_file_keep.specs.Marked.{IsLogSaid, MarkCovers, marked};
+ghost use Rattle.reg_file_keep.specs.NotStarted.{HasStartCause};
 ghost use Rattle.reg_file_keep.specs.Starting.{LosesNothing};
 
 use crate::keeping::FileKeep;
+use crate::laws::marks_cover_ids;
 use crate::log_keep::LogKeep;
+use crate::marking::{Marked, open_marked};
 use crate::room::Room;
-use reg_compaction::{Aside, Opens, compactions_stand_for_logs, open_aside};
-use reg_journal::{Disk, Found, Journal, JournalOpenError, Renewable};
+use reg_compaction::{Aside, Opens, compactions_stand_for_logs};
+use reg_journal::{AppendError, Disk, JournalOpenError, Renewable};
 use reg_pen::KeptLog;
 use std::alloc::Global;
 
@@ -25,10 +28,21 @@ const FIRST_LINES: u64 = 1_000;
 pub struct Started<D: Renewable + Drop> {
     /// The log of the file, and the open keep at its end.
     pub kept: KeptLog<LogKeep<D>>,
-    /// The position of the file's empty line when it was read, in bytes.
+    /// The position of the file's empty line before the file was compacted, in bytes.
     pub end: usize,
     /// How many bytes followed the log; they are in the other file now.
     pub cut: usize,
+    /// The id of the mark that the log lacked and that was appended to it, if one was.
+    pub mark: Option<u32>,
+}
+
+/// Why nothing was started.
+#[derive(Clone, Copy, Debug, PartialEq, Eq)]
+pub enum StartFault {
+    /// The file isn't a log, or the disk failed, or memory was refused.
+    Log(JournalOpenError),
+    /// The mark of ids that the log lacks wasn't acknowledged.
+    Mark(AppendError),
 }
 
 /// Why nothing was started, and the disk.
@@ -37,12 +51,13 @@ pub struct NotStarted<D: Drop> {
     /// The disk, for the caller to go on with.
     pub disk: D,
     /// The error.
-    pub error: JournalOpenError,
+    pub error: StartFault,
 }
 
-/// Reads the log of a file, ends it with an empty line, moves what follows to `aside`, and compacts
-/// the file if that is due. Fails if the file isn't a log, if the disk fails, or if memory is
-/// refused; nothing is lost then.
+/// Reads the log of a file, ends it with an empty line, moves what follows to `aside`, appends a mark
+/// of the greatest id that any record names, if the log has no mark, that id is above all that its
+/// versions have, and the log can be served, and compacts the file if that is due. Fails if the file isn't a log, if the disk fails, if no line is left for
+/// the mark, or if memory is refused; nothing is lost then.
 pub fn start_file_keep<D: Renewable + Drop, A: Disk + Drop, O: Opens<A>>(
     alloc: Global,
     disk: D,
@@ -50,45 +65,51 @@ pub fn start_file_keep<D: Renewable + Drop, A: Disk + Drop, O: Opens<A>>(
 ) -> Result<Started<D>, NotStarted<D>>
     requires { D.is_modelled → D.known disk }
 
-    // The log is what the file said.
-    ensures log { D.is_modelled → IfOk result (λ it. (says : Said) × (said (D.seen disk) ≡ Ok says) × IsLogOf says.floor says.reads it.kept.log) }
+    // The log is what the file said, with the mark of ids that it lacked behind it. If the file has no mark, each id that a
+    // record of it names is at most the greatest that the log marks or a version has: no such id is given to a new schema.
+    ensures log { D.is_modelled → IfOk result (λ it. IsLogSaid (marked (said (D.seen disk))) it.kept.log) }
+    ensures covers { D.is_modelled → IfOk result (λ it. MarkCovers (said (D.seen disk)) it.kept.log) }
 
     // The keep is at its end and isn't broken: its file says a compaction of it, all of it on the
     // disk.
-    ensures kept { D.is_modelled → IfOk result (λ it. IsOpen it.kept.keep (λ keep. SaysCompaction (said (D.seen disk)) (said (D.seen keep.journal.disk)))) }
+    ensures kept { D.is_modelled → IfOk result (λ it. IsOpen it.kept.keep (λ keep. SaysCompaction (marked (said (D.seen disk))) (said (D.seen keep.journal.disk)))) }
     ensures durable { D.is_modelled → IfOk result (λ it. IsOpen it.kept.keep (λ keep. Only (D.seen keep.journal.disk) (D.may_leave keep.journal.disk))) }
     ensures sound { IfOk result (λ it. IsOpen it.kept.keep (λ keep. keep.journal.is_broken ≡ false)) }
     ensures next { IfOk result (λ it. IsOpen it.kept.keep (λ keep. keep.next ≡ it.kept.log.next)) }
 
     // A crash at any moment leaves what it might have left before, a file with all bytes that were
-    // there, or one that says a compaction of what it said.
+    // there, one that says the same, or one that says a compaction of what it said with that mark.
     ensures any_moment { D.is_modelled → IfOk result (λ it. IsOpen it.kept.keep (λ keep. LeavesOnly D.moment D.left_since D.may_leave disk keep.journal.disk
-        (λ c. HasAll (D.may_leave disk) (D.seen disk) c ⊎ SaysCompaction (said (D.seen disk)) (said c)))) }
+        (LosesNothing (D.may_leave disk) (D.seen disk)))) }
 
     // If nothing is started, nothing is lost.
     ensures left { D.is_modelled → IfErr result (λ it. LeavesOnly D.moment D.left_since D.may_leave disk it.disk
         (LosesNothing (D.may_leave disk) (D.seen disk))) }
+
+    // The log has the fault that is told, the mark that it lacks wasn't acknowledged, for a cause that the journal gives, or memory was refused;
+    // it failed only if the disk, or the other disk or its opener, gave a fault.
+    ensures cause { D.is_modelled → IfErr result (λ it. HasStartCause D.is_modelled D.known D.seen D.may_leave D.faults D.renewals D.named
+        (GaveFaultAside A.faults O.failures aside.new.opener aside.new.disk) disk it.error it.disk) }
 {
     compactions_stand_for_logs();
-    let mut disk = disk;
-    let found = match open_aside(alloc, &mut disk, aside) {
-        Ok(found) => found,
-        Err(error) => return Err(NotStarted { disk, error }),
-    };
-    let Found {
+    marks_cover_ids();
+    let Marked {
         log,
+        journal,
         end,
-        lines,
-        behind,
-    } = found;
-    let room = Room::of_log(alloc, &log, lines, FIRST_LINES);
-    let journal = Journal::over(disk, end, lines);
+        cut,
+        mark,
+    } = match open_marked(alloc, disk, aside) {
+        Ok(opened) => opened,
+        Err(fault) => return Err(fault),
+    };
+    let room = Room::of_log(alloc, &log, journal.lines(), FIRST_LINES);
     let mut keep = FileKeep::new(alloc, journal, log.floor, log.next, room);
     keep.make_room(FIRST_LINES);
     if keep.journal().is_broken() {
         return Err(NotStarted {
             disk: keep.into_disk(),
-            error: JournalOpenError::Failed,
+            error: StartFault::Log(JournalOpenError::Failed),
         });
     }
     keep.journal().is_steady();
@@ -96,6 +117,7 @@ pub fn start_file_keep<D: Renewable + Drop, A: Disk + Drop, O: Opens<A>>(
     Ok(Started {
         kept,
         end,
-        cut: behind.len(),
+        cut,
+        mark,
     })
 }

@@ -1,9 +1,12 @@
 -- What a log holds, in numbers.
-use Rattle.std.specs.Prelude.{ℕ, List, true, not, count_by, length, Option, None, if◌then◌else◌}
+use Rattle.std.specs.Prelude.{ℕ, List, true, not, count_by, length, nat_eq, Option, Some, None, if◌then◌else◌}
 use Rattle.std.specs.FinSet.{from_list}
+use Rattle.std.specs.Option.{option_or}
+use Rattle.reg_compaction.specs.Lacking.{unmarked_id}
 use Rattle.reg_fold.specs.reg_records.Log.{is_foreign, next_of, records_in}
 use Rattle.reg_fold.specs.reg_records.declared.log.Log.{Log}
 use Rattle.reg_fold.specs.reg_records.declared.record.Read.{Read}
+use Rattle.reg_fold.specs.reg_records.declared.record.Record.{Record}
 use Rattle.reg_fold.specs.reg_set.LastRecords.{last_records}
 use Rattle.reg_fold.specs.reg_set.Records.{Records}
 use Rattle.reg_fold.specs.reg_entries.Sought.{subjects}
@@ -18,9 +21,18 @@ use Rattle.reg_inspection.specs.declared.counts.Counts.{Counts}
 abbrev pub lasts_in : List Read → Records
 lasts_in read = last_records (from_list (records_in read))
 
--- the greatest id of an entry, where no mark of ids covers it
-abbrev pub mark_due : Records → Option ℕ
-mark_due rs = if needs_mark rs then greatest_id rs else None
+-- an id, unless it is 0
+abbrev pub some_id : ℕ → Option ℕ
+some_id id = if nat_eq id 0 then None else Some id
+
+-- the id that a mark is due for, where records without one name that id, or have a mark for 0: that one, or the greatest id of
+-- an entry, where no mark covers it
+abbrev pub due_by : ℕ → Records → Option ℕ
+due_by unmarked lasts = option_or (some_id unmarked) (if needs_mark lasts then greatest_id lasts else None)
+
+-- so it is for the records of a log
+abbrev pub mark_due : List Record → Option ℕ
+mark_due rs = due_by (unmarked_id rs) (last_records (from_list rs))
 
 -- the records, the foreign lines, the floor and the next offset of what lines say, and of the
 -- entries es the subjects, the live and the soft-deleted ones, and the ids

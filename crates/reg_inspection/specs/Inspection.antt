@@ -1,7 +1,7 @@
 -- What an inspection of a log says.
 use Rattle.std.specs.Prelude.{◌≡◌, ℕ, List, Bool, Ok, Option, string_bytes}
 use Rattle.std.specs.Io.KnownBytes.{Appends}
-use Rattle.reg_fold.specs.reg_records.Log.{LogText, log_of, next_of}
+use Rattle.reg_fold.specs.reg_records.Log.{LogText, log_of, next_of, records_in}
 use Rattle.reg_fold.specs.reg_records.declared.record.Read.{Read}
 use Rattle.reg_inspection.specs.Counts.{counts_of, lasts_in, mark_due}
 use Rattle.reg_inspection.specs.Foreign.{foreign_tally}
@@ -13,14 +13,14 @@ use Rattle.reg_inspection.specs.declared.inspection.Inspection.{Inspection}
 -- the counts, the mark that is due, the foreign lines and the obstacles of the log that a text is, whose lines say that floor and this
 pub record IsInspectionOf (text : List ℕ) (floor : ℕ) (read : List Read) (found : Inspection) : Type 0 where
   pub counts : found.counts ≡ counts_of floor read
-  pub due : found.due ≡ mark_due (lasts_in read)
+  pub due : found.due ≡ mark_due (records_in read)
   pub foreign : found.foreign.entries ≡ foreign_tally text
   pub obstacles : found.obstacles.items ≡ obstacles (lasts_in read) (next_of floor read)
 
 -- what is written of that log
 abbrev pub report_of : List ℕ → ℕ → List Read → List ℕ
 report_of text floor read =
-    report_text (counts_of floor read) (mark_due (lasts_in read)) (foreign_tally text) (obstacles (lasts_in read) (next_of floor read))
+    report_text (counts_of floor read) (mark_due (records_in read)) (foreign_tally text) (obstacles (lasts_in read) (next_of floor read))
 
 -- whether a topic can begin with what its lines say
 abbrev pub is_servable : ℕ → List Read → Bool

@@ -2,7 +2,7 @@
 ghost use Rattle.std.specs.Prelude.{◌≡◌, true, IfOk, count_by, length, map};
 ghost use Rattle.reg_fold.specs.reg_entries.Sought.{subjects};
 ghost use Rattle.reg_fold.specs.Entries.{entries};
-ghost use Rattle.reg_inspection.specs.Counts.{counts_in, mark_due};
+ghost use Rattle.reg_inspection.specs.Counts.{counts_in, due_by};
 ghost use Rattle.reg_inspection.specs.Shared.{ids_of};
 
 use reg_fold::reg_records::Log;
@@ -56,11 +56,15 @@ pub(crate) fn counts_of(
     })
 }
 
-/// Returns the id of the mark that is due: the greatest id of a version, soft-deleted ones too, if
-/// no mark of ids covers it.
-pub(crate) fn mark_due(registry: &Registry) -> Option<u32>
-    ensures { result ≡ mark_due registry.now }
+/// Returns the id of the mark that is due: `unmarked`, which is the greatest that any record names if
+/// they have no mark, and 0 if they have one; else the greatest id of a version, soft-deleted ones
+/// too, if no mark of ids covers it.
+pub(crate) fn mark_due(unmarked: u32, registry: &Registry) -> Option<u32>
+    ensures { result ≡ due_by unmarked registry.now }
 {
+    if unmarked > 0 {
+        return Some(unmarked);
+    }
     let greatest = registry.greatest_id()?;
     if registry.mark() < greatest {
         return Some(greatest);

@@ -12,6 +12,7 @@ use crate::counts::{Counts, counts_of, mark_due};
 use crate::foreign::foreign_in;
 use crate::ids::ids_of;
 use crate::obstacle::{Obstacle, lasts_of, obstacles_in};
+use reg_compaction::unmarked_id;
 use reg_fold::base_text::Text;
 use reg_fold::reg_records::{Device, Log, LogError, quoted, read_log};
 use std::alloc::{AllocError, Global};
@@ -75,9 +76,10 @@ fn inspection_of(
     let (last, registry) = lasts_of(alloc, &log.records)?;
     let entries = registry.entries()?;
     let ids = ids_of(alloc, &entries)?;
+    let unmarked = unmarked_id(alloc, &log.records)?;
     Ok(Inspection {
         counts: counts_of(log, &registry, &entries, &ids)?,
-        due: mark_due(&registry),
+        due: mark_due(unmarked, &registry),
         foreign,
         obstacles: obstacles_in(alloc, &last, &registry, &ids, log.next)?,
     })

@@ -362,8 +362,8 @@ fn answer_rest<D: SharedDesk>(
     answered
 }
 
-/// The turn that the request at the front takes, by its method and its target. A worker has the paths from its start on; without them
-/// each request would take a turn of commands.
+/// The turn that the request at the front takes, by its method and its target. Where a worker couldn't have the memory for its table of
+/// paths at its start, each request takes a turn of commands until an answer has made that table.
 fn kind_of_turn<T: Drop>(
     state: &WorkerState,
     connection: &Connection<TcpStream, T>,

@@ -1,5 +1,6 @@
 // Why a log isn't served.
-use reg_journal::{JournalOpenError, SystemError, Trouble};
+use reg_file_keep::StartFault;
+use reg_journal::{AppendError, JournalOpenError, SystemError, Trouble};
 use reg_records::{LogError, LogFault};
 use reg_service::ServiceError;
 use std::alloc::{AllocError, AllocFailed};
@@ -104,6 +105,24 @@ impl KeepError {
                 Some(Trouble::Unnamed) => KeepError::Unnamed,
                 None => KeepError::File(SystemError::of(&io::Error::from(ErrorKind::Other))),
             },
+        }
+    }
+}
+
+impl KeepError {
+    /// Makes the error of a start over a log's file; `trouble` is the last trouble with the file.
+    pub(crate) fn of_start(error: StartFault, trouble: Option<Trouble>) -> KeepError {
+        match error {
+            StartFault::Log(error) => KeepError::of_opening(error, trouble),
+            StartFault::Mark(AppendError::TooManyLines) => KeepError::Start(ServiceError::Full),
+            StartFault::Mark(AppendError::OutOfMemory) => KeepError::OutOfMemory,
+            StartFault::Mark(
+                AppendError::LineTooLong
+                | AppendError::Changed
+                | AppendError::Unnamed
+                | AppendError::Failed
+                | AppendError::Broken,
+            ) => KeepError::of_opening(JournalOpenError::Failed, trouble),
         }
     }
 }

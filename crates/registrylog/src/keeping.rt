@@ -135,7 +135,12 @@ pub(crate) fn open_log<R: Files<File = File> + Clock + Eprint + Copy + Drop>(
     }
     disk.remove_unfinished()?;
     let disk = MeteredFile::new(rt, disk, Arc::try_clone(board)?);
-    let Started { kept, end, cut: _ } = start_log(rt, alloc, disk, path, like)?;
+    let Started {
+        kept,
+        end,
+        cut: _,
+        mark: _,
+    } = start_log(rt, alloc, disk, path, like)?;
     let mut telling = Telling::new(rt, Arc::try_clone(board)?);
     if let LogKeep::Open(keep) = kept.keep() {
         let bytes = (end as u64).saturating_add(1);

@@ -216,23 +216,26 @@ pub(crate) fn start_log<R: Files<File = File> + Clock + Eprint + Copy + Drop>(
     let Aside { opener, disk: put } = aside;
     match started {
         Ok(started) => {
-            let count = started.cut;
-            if count > 0 {
-                let cut = opener.path.as_str();
-                let _told = rt.eprintln(format_args!(
-                    "{count} bytes behind the log were put into {cut}"
-                ));
-            }
+            tell_changes(&rt, started.cut, opener.path.as_str(), started.mark);
             Ok(started)
         }
         Err(NotStarted { disk, error }) => {
             let cut = put.and_then(|put| put.trouble());
             let trouble = disk.trouble().or(cut);
-            Err(
-                opener
-                    .fault
-                    .unwrap_or(KeepError::of_opening(error, trouble)),
-            )
+            Err(opener.fault.unwrap_or(KeepError::of_start(error, trouble)))
         }
+    }
+}
+
+/// Reports what a start changed: how many bytes behind the log were put into the file `cut`, and the
+/// mark of ids that was appended.
+fn tell_changes<R: Eprint>(rt: &R, count: usize, cut: &str, mark: Option<u32>) {
+    if count > 0 {
+        let _told = rt.eprintln(format_args!("{count} bytes behind the log were put into {cut}"));
+    }
+    if let Some(id) = mark {
+        let _told = rt.eprintln(format_args!(
+            "mark of ids {id} appended: the log had none, and {id} is the highest id that its lines name"
+        ));
     }
 }

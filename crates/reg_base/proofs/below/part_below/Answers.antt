@@ -1,10 +1,10 @@
-use Rattle.std.proofs.Common.{◌≡◌, ◌≤◌, ◌++◌, [], ℕ, List, IfOk, Ok, drop, take, length, sym, ap, refl, ◌∙◌, arith, length-append}
+use Rattle.std.proofs.Common.{◌≡◌, ◌≤◌, ◌++◌, ℕ, List, drop, take, length, sym, ap, refl, ◌∙◌, arith, length-append}
 use Rattle.reg_journal.specs.Lines.{SayLog, text_of}
-use Rattle.reg_fold.specs.reg_records.Log.{LogText, log_of, records_in}
+use Rattle.reg_fold.specs.reg_records.Log.{log_of, records_in}
 use Rattle.reg_fold.specs.reg_records.declared.limits.TheConstants.{LOG_LINES}
 use Rattle.reg_compaction.specs.Fronts.{HasLines}
 use Rattle.reg_compaction.proofs.Fronts.{Say-length, behind, split_behind, split_front, text_of-append}
-use Rattle.reg_base.specs.Base.{lines_below, log_below, reads_below}
+use Rattle.reg_base.specs.Base.{lines_below, reads_below}
 use Rattle.reg_base.proofs.Lines.{counted, fewer, say_below}
 use Rattle.reg_base.proofs.below.part_below.Goals as goal
 

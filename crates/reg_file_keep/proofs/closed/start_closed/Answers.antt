@@ -1,6 +1,5 @@
 -- The log is what the bytes that were read say.
 use Rattle.std.proofs.Common.{◌≡◌, Ok, sym, ap, subst, ◌∙◌, rules}
-use Rattle.reg_journal.specs.Lines.{Said, said}
 use Rattle.reg_pen.specs.KeptState.{KeptState}
 use Rattle.reg_records.specs.Log.{IsLogOf, log_of}
 use Rattle.reg_file_keep.specs.declared.log_keep.LogKeep.{LogKeep}
