@@ -1,8 +1,9 @@
 //! The keep of a log in a file: what makes a pen's batches durable.
 //!
 //! [`start_file_keep`] reads the log, moves what follows its empty line to another file, appends the
-//! mark of ids that the log lacks, and returns the log with an open keep. From then on each batch is appended and synced before the pen
-//! publishes it. [`start_closed`] reads a log without ever writing to its file.
+//! mark of ids that the log lacks, and returns the log with an open keep. From then on each batch is
+//! appended and synced before the pen publishes it. [`start_closed`] reads a log without ever
+//! writing to its file.
 //!
 //! One idea: the file always says a compaction of what was kept. It is compacted when many of its
 //! lines are superseded, by a new file that replaces the old one, so a crash at any moment leaves

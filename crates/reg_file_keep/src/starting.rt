@@ -54,10 +54,12 @@ pub struct NotStarted<D: Drop> {
     pub error: StartFault,
 }
 
-/// Reads the log of a file, ends it with an empty line, moves what follows to `aside`, appends a mark
-/// of the greatest id that any record names, if the log has no mark, that id is above all that its
-/// versions have, and the log can be served, and compacts the file if that is due. Fails if the file isn't a log, if the disk fails, if no line is left for
-/// the mark, or if memory is refused; nothing is lost then.
+/// Reads the log of a file, ends it with an empty line, and moves what follows to `aside`. If the
+/// log has no mark of ids, can be served, and any record names an id above all that its versions
+/// have, a mark of the greatest such id is appended. Compacts the file if that is due.
+///
+/// Fails if the file isn't a log, if the disk fails, if no line is left for the mark, or if memory is
+/// refused; nothing is lost then.
 pub fn start_file_keep<D: Renewable + Drop, A: Disk + Drop, O: Opens<A>>(
     alloc: Global,
     disk: D,
