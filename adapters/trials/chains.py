@@ -237,7 +237,7 @@ def large_batches(trial, kind):
     seat, other = log.seats(2, patience=10)
     expect(seat.append(count=20000) == "kept", seat.said())
     expect(seat.append("x" * 2000000) == "kept", seat.said())
-    answer = seat.append("x" * 11000000)
+    answer = seat.append("x" * 1000000, count=11)
     expect(answer == ("kept" if kind == "postgres" else "declined"), answer, seat.said())
     for _ in range(5 if kind != "kafka" else 0):        # mock brokers forget what is above 5 MB
         expect(seat.append("y" * 900000, count=2) == "kept", seat.said())
