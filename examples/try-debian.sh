@@ -127,7 +127,8 @@ missing_once() {
 no_adapter_once() {
     systemctl start registrylog-join || true
     sleep 6
-    same "how a joined process without an adapter ends" "failed 2 0" "$(systemctl show -P ActiveState -P ExecMainStatus -P NRestarts registrylog-join | paste -sd ' ')"
+    same "how a joined process without an adapter ends" "ActiveState=failed ExecMainStatus=2 NRestarts=0" "$(
+        systemctl show -p ActiveState -p ExecMainStatus -p NRestarts registrylog-join | sort | paste -sd ' ')"
     same "how often it says so" 1 "$(journalctl -b -o cat --no-pager -u registrylog-join | grep -c '^JOIN_ADAPTER is empty')"
     systemctl reset-failed registrylog-join
 }
