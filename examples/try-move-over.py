@@ -1,9 +1,10 @@
 #!/usr/bin/env python3
-"""Moves a registry of another maker over to `registrylog keep` and back, while a client writes: try-move-over.py REGISTRYLOG
+"""Moves a registry of another maker over to `registrylog keep` and back, while a client writes: try-move-over.py REGISTRYLOG [VERSIONS]
 
-Each step is a command, which is printed, and a check that has to print `equal`. The commands are the recipe; OLD, NEW and READS are URLs.
-Reads move first, to a follower of the topic `_schemas`. Writes stand still while what came since an earlier dump is dumped, and `keep`
-starts. Back, they stand still while `copy-registry` brings the rest. At the end each id that was ever acknowledged has its schema.
+That registry has so many versions before (150). Each step is a command, which is printed, and a check that has to print `equal`. The
+commands are the recipe; OLD, NEW and READS are URLs. Reads move first, to a follower of the topic `_schemas`. Writes stand still while
+what came since an earlier dump is dumped, and `keep` starts. Back, they stand still while `copy-registry` brings the rest. At the end each
+id that was ever acknowledged has its schema.
 
 The registry of the other maker is the stand-in of tools/other_registry.py, and so is `kcat`. It writes into a new folder for temporary
 files, listens on free ports of 127.0.0.1, and ends by itself; the status is 1 if anything isn't as it should be."""
@@ -234,9 +235,9 @@ def check_ids(writer, url):
     print(f"{writer.written} writes, {writer.refused} refused meanwhile, and each id has its schema", flush=True)
 
 
-def fill(old):
-    """Versions, levels and deletes that are there before."""
-    for number in range(150):
+def fill(old, count):
+    """Versions, so many, levels and deletes that are there before."""
+    for number in range(count):
         ask(f"{old.url}/subjects/there-{number % 40}/versions", {"schema": json.dumps({"name": f"there_{number}", "size": 2, "type": "fixed"})})
     for method, path, body in (("PUT", "/config/there-1", {"compatibility": "NONE"}), ("DELETE", "/subjects/there-2", None),
                                ("DELETE", "/subjects/there-3/versions/2", None), ("DELETE", "/subjects/there-3/versions/2?permanent=true", None)):
@@ -244,13 +245,13 @@ def fill(old):
 
 
 def main():
-    if len(sys.argv) != 2 or sys.argv[1].startswith("-"):
+    if len(sys.argv) not in (2, 3) or sys.argv[1].startswith("-") or not (sys.argv + ["150"])[2].isdigit():
         print(__doc__)
         return 2
     with tempfile.TemporaryDirectory() as folder, contextlib.ExitStack() as stack:
         old = TopicRegistry(os.path.join(folder, "records"))
         stack.callback(old.stop)
-        fill(old)
+        fill(old, int((sys.argv + ["150"])[2]))
         names = {name: f"http://127.0.0.1:{free_port()}" for name in ("NEW", "READS", "READS_OF_NEW")}
         writer = Writer(old.url)
         shell = Shell(folder, sys.argv[1], stack, writer, OLD=old.url, **names)

@@ -438,7 +438,7 @@ def from_backup(backup, clients):
     shutil.copyfile(backup, place + "/registry.backup")
     *commands, last = commands_of("### Backup")
     do_commands(commands, place)
-    same("the last command", "registrylog keep registry.log", last)
+    same("the last command", "registrylog keep registry.log &", last)
     clients.loses(place + "/registry.log")
     registry = again(place + "/registry.log", clients)
     same("the ids after the mark", [1_000_001, 1_000_002], sorted(clients.kept.values())[-2:])
