@@ -12,8 +12,8 @@ It is a plain reading of docs/COMMANDS.md in Python, and shares no code with the
 it wrote, or a place between two batches at which it writes nothing and is answered so. What it finds to hold, or says isn't so:
 
 - Each batch is what one command writes there, and that command was asked; no command wrote two.
-- Each command that was answered has a place at which the reply is right, refusals too. One answered by `unsettled`, or by nobody, may have
-  one; one answered by 50301, 50302 or `memory` has none.
+- Each command that was answered has a place at which the reply is right, refusals too. One answered by `unsettled`, by nobody, or by nginx
+  in a process's place, may have one; one answered by 50301, 50302 or `memory` has none.
 - A command asked after another one was answered has no older place, and a newer one where that wrote. One kind of answer is excepted: the id
   of a registration that writes nothing, which a process may give by itself where its store can't be reached. It has to be one that was live
   under that id.
@@ -40,6 +40,7 @@ from urllib.parse import unquote
 PROMOTED = {("long", "int"), ("float", "int"), ("double", "int"), ("float", "long"), ("double", "long"), ("double", "float"),
             ("string", "bytes"), ("bytes", "string")}       # a reader's type, and a writer's
 NOT_DONE = {50301, 50302}
+NO_ANSWER = {502, 504}          # of nginx, in the place of a process
 TRIES, REACH = 5000, 1000       # how often it goes back; how many batches ahead a registration may have written
 MEMORY, UNSETTLED = "Store error: memory", "Store error: unsettled"
 
@@ -383,7 +384,7 @@ class Request:
         code = answer.get("error_code") if isinstance(answer, dict) else None
         message = answer.get("message") if isinstance(answer, dict) else None
         self.is_not_done = code in NOT_DONE or message == MEMORY
-        self.is_open = said["status"] is None or message == UNSETTLED or (code is None and said["status"] >= 500)
+        self.is_open = said["status"] is None or message == UNSETTLED or code in NO_ANSWER or (code is None and said["status"] >= 500)
 
     def is_answer(self, verdict):
         """Whether the verdict is what was answered."""

@@ -111,6 +111,18 @@ def unsettled_and_done_later():
 
 
 @case()
+def done_behind_a_gateway():
+    """nginx had no answer and said so; the process did it all the same."""
+    made = usual()
+    made.register("v", SCHEMAS[0])
+    made.requests[-1].update(status=502, answer={"error_code": 502, "message": "No answer from the registry, which may have done what was asked"})
+    made.register("v", SCHEMAS[0])
+    made.note("DELETE", "/subjects/v", None, 504, {"error_code": 504, "message": "No answer from the registry in time"})
+    made.register("v", SCHEMAS[0])
+    return made
+
+
+@case()
 def unsettled_and_never_done():
     made = usual()
     made.note("POST", REGISTER % "w", {"schema": SCHEMAS[0]}, 500, {"error_code": 50001, "message": "Store error: unsettled"})
